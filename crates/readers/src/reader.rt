@@ -12,6 +12,13 @@ use crate::shape::Shape;
 // A key has at most this many bytes.
 pub const MOST_KEY: usize = 64;
 
+// What a reader tells of a shape that it does not admit, and of a key that is too long.
+pub const NOT_READ: Refusal = Refusal {
+    reason: 0,
+    place: 0,
+    depth: 0,
+};
+
 // A reader turns keys into clauses. Whoever adds one gives its meaning, and shows that it tells exactly that.
 pub trait Reader {
     ghost meaning: { Self → Meaning };

@@ -1,6 +1,5 @@
 use mathlib.Core.Path.{sym}
-use Rattle.readers.specs.Meaning.{clauseMeant}
-use Rattle.readers.proofs.Replies.{reply-formed}
+use Rattle.readers.specs.Meaning.{clauseMeant, reply-formed}
 use Rattle.readers.proofs.Shapes.{shape-limits}
 use Rattle.readers.proofs.reader.read_formed.Needs as need
 

@@ -1,0 +1,7 @@
+// The lines that the program prints, each promised byte for byte.
+mod hex;
+mod lines;
+mod text;
+
+pub use lines::asked;
+pub use lines::opened;

@@ -1,0 +1,5 @@
+pub mod Sizes
+pub mod Images
+pub mod Questions
+pub mod Tables
+pub mod Laws
