@@ -1,17 +1,17 @@
 // Images: the published one, the replies to its serials, and damaged ones.
 #[cfg(test)]
 mod tests {
-    use readers::clause::Refusal;
-    use readers::fault::Caller;
-    use readers::fault::Fault;
-    use readers::fault::FaultDebug;
-    use readers::fault::FaultPartialEq;
     use readers::fold::Fold;
     use readers::fold::FoldReader;
     use readers::split::Split;
     use readers::split::SplitReader;
     use readers::stream::Stream;
     use readers::stream::StreamReader;
+    use shapes::fault::Caller;
+    use shapes::fault::Fault;
+    use shapes::fault::FaultDebug;
+    use shapes::fault::FaultPartialEq;
+    use shapes::fault::Refusal;
     use std::test::*;
     use table::Reply;
     use table::ReplyDebug;

@@ -5,18 +5,18 @@ ghost use mathlib.Core.Path.{_≡_};
 mod tests {
     use gf2::sets::CellSet;
     use readers::clause::Clause;
-    use readers::clause::Refusal;
-    use readers::clause::RefusalDebug;
-    use readers::clause::RefusalPartialEq;
     use readers::fold::Fold;
     use readers::fold::FoldReader;
     use readers::reader::Reader;
-    use readers::shape::Dims;
-    use readers::shape::Shape;
     use readers::split::Split;
     use readers::split::SplitReader;
     use readers::stream::Stream;
     use readers::stream::StreamReader;
+    use shapes::fault::Refusal;
+    use shapes::fault::RefusalDebug;
+    use shapes::fault::RefusalPartialEq;
+    use shapes::shape::Dims;
+    use shapes::shape::Shape;
     use std::test::*;
 
     fn shape(n: u16, k: u16, s: u16, r: u16, b: u16) -> Result<Shape, Fail> {

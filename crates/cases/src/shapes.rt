@@ -1,14 +1,14 @@
 // The limits of a shape's five numbers, each from both sides.
 #[cfg(test)]
 mod tests {
-    use readers::fault::Fault;
-    use readers::fault::FaultDebug;
-    use readers::fault::FaultPartialEq;
-    use readers::fault::Layer;
-    use readers::fault::LayerDebug;
-    use readers::fault::LayerPartialEq;
-    use readers::shape::Dims;
-    use readers::shape::Shape;
+    use shapes::fault::Fault;
+    use shapes::fault::FaultDebug;
+    use shapes::fault::FaultPartialEq;
+    use shapes::fault::Layer;
+    use shapes::fault::LayerDebug;
+    use shapes::fault::LayerPartialEq;
+    use shapes::shape::Dims;
+    use shapes::shape::Shape;
     use std::test::*;
 
     // The fault's place, or 0 where the numbers pass.

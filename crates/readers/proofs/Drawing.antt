@@ -15,7 +15,7 @@ use Rattle.span.proofs.Bits.{has-zero, has-xor, has-pow, has-pow-other}
 use Rattle.gf2.specs.Masks.{width, toggledIn}
 use Rattle.readers.specs.Meaning.{Clause}
 use Rattle.readers.specs.Draws.{drawn, clauseOf, times, Odd-draws}
-use Rattle.readers.specs.declared.shape.Dims.{Dims}
+use Rattle.shapes.specs.declared.shape.Dims.{Dims}
 
 -- one draw more, below the width of a set
 pub drawn-more : (draw : ℕ → ℕ) (i m m′ : ℕ) → draw i < width → m ≡ drawn draw i → m′ ≡ toggledIn width m (draw i) → m′ ≡ drawn draw (i + 1)

@@ -1,5 +1,4 @@
 pub mod Replies
-pub mod Shapes
 pub mod Drawing
 pub mod Hashing
 pub mod Folding

@@ -9,7 +9,7 @@ use lib.ListN.{length, getD}
 use Rattle.std.specs.declared.result.Result.the-variants.{Err}
 use Rattle.std.proofs.shelf.Tests.{and-from, le-leb}
 use Rattle.readers.specs.Meaning.{Meaning, mostKey, refusal, reply}
-use Rattle.readers.specs.declared.shape.Dims.{Dims}
+use Rattle.shapes.specs.declared.shape.Dims.{Dims}
 
 -- at an admitted shape, with a key that is not too long, it is what the meaning gives
 pub reply-given : (m : Meaning) (d : Dims) (key : List ℕ) → m .admits d ≡ true → length key ≤ mostKey → reply m d key ≡ m .gives d key

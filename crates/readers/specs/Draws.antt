@@ -8,9 +8,9 @@ use lib.Dec.{eqb}
 use Rattle.std.proofs.shelf.Bits.{mod-below, pow-pos}
 use Rattle.span.specs.Sets.{isOne, has, differs, Within}
 use Rattle.span.proofs.Bits.{has-zero, has-xor, has-pow-other}
-use Rattle.readers.specs.Limits.{InLimits}
+use Rattle.shapes.specs.Limits.{InLimits}
 use Rattle.readers.specs.Meaning.{Clause, Formed}
-use Rattle.readers.specs.declared.shape.Dims.{Dims}
+use Rattle.shapes.specs.declared.shape.Dims.{Dims}
 
 -- The set of cells after the first i draws: each draw puts its cell in, or takes it out where it was in.
 abbrev pub drawn : (ℕ → ℕ) → ℕ → ℕ

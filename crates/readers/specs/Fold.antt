@@ -9,10 +9,10 @@ use lib.ListN.{length}
 use Rattle.std.specs.Results.{mapped}
 use Rattle.std.specs.declared.result.Result.{Result}
 use Rattle.std.specs.declared.result.Result.the-variants.{Ok, Err}
-use Rattle.readers.specs.Limits.{InLimits}
+use Rattle.shapes.specs.Limits.{InLimits}
 use Rattle.readers.specs.Meaning.{Meaning, Clause, Formed, refusal, reply, reply-formed}
-use Rattle.readers.specs.declared.clause.Refusal.{Refusal}
-use Rattle.readers.specs.declared.shape.Dims.{Dims}
+use Rattle.shapes.specs.declared.fault.Refusal.{Refusal}
+use Rattle.shapes.specs.declared.shape.Dims.{Dims}
 
 -- The printable bytes of ASCII, the space among them.
 abbrev pub printable : ℕ → Bool

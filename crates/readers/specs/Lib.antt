@@ -1,6 +1,3 @@
-pub mod Results
-pub mod Limits
-pub mod Faults
 pub mod Meaning
 pub mod Draws
 pub mod Split

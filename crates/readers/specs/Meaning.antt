@@ -11,13 +11,13 @@ use Rattle.std.specs.declared.result.Result.{Result}
 use Rattle.std.specs.declared.result.Result.the-variants.{Ok, Err}
 use Rattle.span.specs.Sets.{Within}
 use Rattle.gf2.specs.Masks.{mask}
-use Rattle.readers.specs.Limits.{InLimits}
+use Rattle.shapes.specs.Limits.{InLimits}
 use Rattle.readers.specs.declared.clause.Clause.{Clause as CodeClause}
-use Rattle.readers.specs.declared.clause.Refusal.{Refusal}
-use Rattle.readers.specs.declared.fault.Caller.{Caller}
-use Rattle.readers.specs.declared.fault.Fault.{Fault}
-use Rattle.readers.specs.declared.fault.Fault.the-variants.{NotAdmitted, LongKey, TurnedDown}
-use Rattle.readers.specs.declared.shape.Dims.{Dims}
+use Rattle.shapes.specs.declared.fault.Refusal.{Refusal}
+use Rattle.shapes.specs.declared.fault.Caller.{Caller}
+use Rattle.shapes.specs.declared.fault.Fault.{Fault}
+use Rattle.shapes.specs.declared.fault.Fault.the-variants.{NotAdmitted, LongKey, TurnedDown}
+use Rattle.shapes.specs.declared.shape.Dims.{Dims}
 
 -- A block, a set of cells of that block as a mask, and a check.
 pub record Clause : Type 0 where

@@ -8,11 +8,11 @@ use lib.Dec.{leb, eqb}
 use lib.ListN.{length, getD}
 use Rattle.std.specs.declared.result.Result.{Result}
 use Rattle.std.specs.declared.result.Result.the-variants.{Ok, Err}
-use Rattle.readers.specs.Limits.{InLimits}
+use Rattle.shapes.specs.Limits.{InLimits}
 use Rattle.readers.specs.Meaning.{Meaning, Clause, Formed, refusal}
 use Rattle.readers.specs.Draws.{clauseOf, clauseOf-formed}
-use Rattle.readers.specs.declared.clause.Refusal.{Refusal}
-use Rattle.readers.specs.declared.shape.Dims.{Dims}
+use Rattle.shapes.specs.declared.fault.Refusal.{Refusal}
+use Rattle.shapes.specs.declared.shape.Dims.{Dims}
 
 -- The digits of bytes, the high digit of each first.
 abbrev pub digits : List ℕ → List ℕ

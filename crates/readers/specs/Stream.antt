@@ -6,11 +6,11 @@ use mathlib.Core.List.{List, [], _∷_, _++_}
 use lib.Bits.{bitXor}
 use Rattle.std.specs.declared.result.Result.{Result}
 use Rattle.std.specs.declared.result.Result.the-variants.{Ok}
-use Rattle.readers.specs.Limits.{InLimits}
+use Rattle.shapes.specs.Limits.{InLimits}
 use Rattle.readers.specs.Meaning.{Meaning, Clause, Formed}
 use Rattle.readers.specs.Draws.{clauseOf, clauseOf-formed}
-use Rattle.readers.specs.declared.clause.Refusal.{Refusal}
-use Rattle.readers.specs.declared.shape.Dims.{Dims}
+use Rattle.shapes.specs.declared.fault.Refusal.{Refusal}
+use Rattle.shapes.specs.declared.shape.Dims.{Dims}
 
 -- FNV-1a, 64 bits: one byte more.
 abbrev pub fnvStep : ℕ → ℕ → ℕ

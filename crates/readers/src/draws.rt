@@ -4,8 +4,8 @@ ghost use lib.ListN.{getD};
 ghost use Rattle.readers.specs.Meaning.{clauseMeant};
 ghost use Rattle.readers.specs.Draws.{clauseOf, Odd-draws};
 use crate::clause::Clause;
-use crate::shape::Shape;
 use gf2::sets::CellSet;
+use shapes::shape::Shape;
 
 // The numbers in a row: at most eight draws, the check and the block.
 pub const ROW: usize = 10;

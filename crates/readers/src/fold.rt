@@ -6,11 +6,11 @@ ghost use Rattle.std.specs.Results.{Cases};
 ghost use Rattle.readers.specs.Meaning.{refusal};
 ghost use Rattle.readers.specs.Fold.{unprintableAt, folded, capital as capitalOf, deeper as deeperOf, foldMeaning};
 use crate::clause::Clause;
-use crate::clause::Refusal;
 use crate::reader::MOST_KEY;
 use crate::reader::NOT_READ;
 use crate::reader::Reader;
-use crate::shape::Shape;
+use shapes::fault::Refusal;
+use shapes::shape::Shape;
 
 // The printable bytes of ASCII.
 const FIRST: u8 = 0x20;

@@ -3,11 +3,11 @@ ghost use mathlib.Core.Path.{_≡_};
 ghost use Rattle.std.specs.Vec.{made};
 ghost use Rattle.readers.specs.Meaning.{Meaning, Formed, reply, clauseIn, readFor, clauseMeant};
 use crate::clause::Clause;
-use crate::clause::Refusal;
-use crate::fault::Caller;
-use crate::fault::Fault;
-use crate::fault::FaultFromRefusal;
-use crate::shape::Shape;
+use shapes::fault::Caller;
+use shapes::fault::Fault;
+use shapes::fault::FaultFromRefusal;
+use shapes::fault::Refusal;
+use shapes::shape::Shape;
 
 // A key has at most this many bytes.
 pub const MOST_KEY: usize = 64;

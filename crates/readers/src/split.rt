@@ -5,13 +5,13 @@ ghost use Rattle.readers.specs.Meaning.{clauseMeant};
 ghost use Rattle.readers.specs.Draws.{clauseOf};
 ghost use Rattle.readers.specs.Split.{digits, digit, splitMeaning};
 use crate::clause::Clause;
-use crate::clause::Refusal;
 use crate::draws;
 use crate::draws::ROW;
 use crate::reader::MOST_KEY;
 use crate::reader::NOT_READ;
 use crate::reader::Reader;
-use crate::shape::Shape;
+use shapes::fault::Refusal;
+use shapes::shape::Shape;
 
 // The largest cells in a block, draws, check bits and blocks that eight digits serve.
 const MOST_CELLS: u16 = 16;

@@ -6,13 +6,13 @@ ghost use Rattle.readers.specs.Meaning.{clauseMeant};
 ghost use Rattle.readers.specs.Draws.{clauseOf};
 ghost use Rattle.readers.specs.Stream.{fnvStep, fnvFrom, fnv, Fnv-rule, advance, mix, word, streamMeaning};
 use crate::clause::Clause;
-use crate::clause::Refusal;
 use crate::draws;
 use crate::draws::ROW;
 use crate::reader::MOST_KEY;
 use crate::reader::NOT_READ;
 use crate::reader::Reader;
-use crate::shape::Shape;
+use shapes::fault::Refusal;
+use shapes::shape::Shape;
 
 // FNV-1a, 64 bits: the hash of the empty key, and the factor.
 const OFFSET_BASIS: u64 = 14695981039346656037;

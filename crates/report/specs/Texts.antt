@@ -7,10 +7,10 @@ use lib.Dec.{ltb}
 use Rattle.std.specs.Written.{decimal}
 use Rattle.std.specs.declared.result.Result.{Result}
 use Rattle.std.specs.declared.result.Result.the-variants.{Ok, Err}
-use Rattle.readers.specs.Faults.{named}
-use Rattle.readers.specs.declared.fault.Fault.{Fault}
-use Rattle.readers.specs.declared.fault.Layer.{Layer}
-use Rattle.readers.specs.declared.fault.Layer.the-variants.{Shape, Draft, Reader, Table}
+use Rattle.shapes.specs.Faults.{named}
+use Rattle.shapes.specs.declared.fault.Fault.{Fault}
+use Rattle.shapes.specs.declared.fault.Layer.{Layer}
+use Rattle.shapes.specs.declared.fault.Layer.the-variants.{Shape, Draft, Reader, Table}
 use Rattle.table.specs.declared.reply.Reply.{Reply}
 use Rattle.table.specs.declared.reply.Reply.the-variants.{No, Maybe}
 use Rattle.table.specs.Images.{Content}

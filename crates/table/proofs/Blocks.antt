@@ -9,7 +9,7 @@ use Rattle.std.specs.shelf.Digits.{number}
 use Rattle.std.proofs.shelf.Lists.{take-take, drop-take, drop-drop, length-drop, length-take-le}
 use Rattle.span.specs.Fillings.{xorOver}
 use Rattle.span.proofs.Xors.{xorOver-same}
-use Rattle.readers.specs.declared.shape.Dims.{Dims}
+use Rattle.shapes.specs.declared.shape.Dims.{Dims}
 use Rattle.table.specs.Sizes.{width, cellsLength}
 use Rattle.table.specs.Images.{cut, contentOf}
 use Rattle.table.specs.Questions.{xorIn, wordAt}

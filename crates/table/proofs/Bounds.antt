@@ -2,8 +2,8 @@
 use Prim.Native.Nat.{_*_, _≤_}
 use native.Mathlib.Omega.{arith}
 use Rattle.std.proofs.shelf.Bits.{mul-le}
-use Rattle.readers.specs.Limits.{InLimits, mostCells, mostBlocks}
-use Rattle.readers.specs.declared.shape.Dims.{Dims}
+use Rattle.shapes.specs.Limits.{InLimits, mostCells, mostBlocks}
+use Rattle.shapes.specs.declared.shape.Dims.{Dims}
 use Rattle.table.specs.Sizes.{width, cellCount, cellsLength}
 
 pub width-low : (d : Dims) → InLimits d → 1 ≤ width d

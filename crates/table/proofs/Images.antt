@@ -13,17 +13,17 @@ use Rattle.std.specs.declared.result.Result.the-variants.{Ok, Err}
 use Rattle.std.proofs.shelf.Bits.{div-add-mod', div-mul-add, mod-mul-add, pow-add}
 use Rattle.std.proofs.shelf.Lists.{drop-more, getD-drop}
 use Rattle.std.proofs.shelf.Tests.{leb-true, eqb-true, ltb-true, le-leb, eq-eqb, lt-ltb, and-parts, and-from, cond-true}
-use Rattle.readers.specs.Limits.{InLimits, outside, limited}
-use Rattle.readers.specs.Results.{andThen}
-use Rattle.readers.specs.declared.fault.Fault.{Fault}
-use Rattle.readers.specs.declared.fault.Fault.the-variants.{NoHeader, HeaderLimit, ImageLength, LargeCell}
-use Rattle.readers.specs.declared.shape.Dims.{Dims}
+use Rattle.shapes.specs.Limits.{InLimits, outside, limited}
+use Rattle.shapes.specs.Results.{andThen}
+use Rattle.shapes.specs.declared.fault.Fault.{Fault}
+use Rattle.shapes.specs.declared.fault.Fault.the-variants.{NoHeader, HeaderLimit, ImageLength, LargeCell}
+use Rattle.shapes.specs.declared.shape.Dims.{Dims}
 use Rattle.table.specs.Sizes.{width, cellCount, cellsLength, headerLength, imageLength}
 use Rattle.table.specs.Images.{Content, version, bytesOf, image, cut, contentOf, headed, heading, sizing, below, firstLarge, fitting, opening}
 use Rattle.table.specs.Laws.{Sound, Bytes, Image-opens-as-its-table, One-image-for-each-table}
 use Rattle.table.proofs.Walks.{length-cut}
 use Rattle.table.proofs.Bytes.{length-joined, cut-joined, joined-cut}
-use Rattle.table.proofs.Ranges.{limits-from-outside, outside-from-limits}
+use Rattle.shapes.proofs.Ranges.{limits-from-outside, outside-from-limits}
 use Rattle.table.proofs.Openings.{fitting-is}
 
 -- ---- words within their limit

@@ -1,5 +1,4 @@
 pub mod Bounds
-pub mod Ranges
 pub mod Walks
 pub mod Blocks
 pub mod Bytes

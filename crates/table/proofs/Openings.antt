@@ -7,9 +7,9 @@ use native.Mathlib.Omega.{arith}
 use borrow.Author.Tests.{eq-eqb, ne-eqb}
 use lib.ListN.{length}
 use Rattle.std.specs.declared.result.Result.the-variants.{Ok, Err}
-use Rattle.readers.specs.Limits.{InLimits}
-use Rattle.readers.specs.declared.fault.Fault.the-variants.{LargeCell}
-use Rattle.readers.specs.declared.shape.Dims.{Dims}
+use Rattle.shapes.specs.Limits.{InLimits}
+use Rattle.shapes.specs.declared.fault.Fault.the-variants.{LargeCell}
+use Rattle.shapes.specs.declared.shape.Dims.{Dims}
 use Rattle.table.specs.Sizes.{width, cellCount, cellsLength}
 use Rattle.table.specs.Images.{Content, cut, wordsIn, contentOf, firstLarge, fitting}
 use Rattle.table.proofs.Bounds.{width-low}

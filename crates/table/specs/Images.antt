@@ -11,11 +11,11 @@ use Rattle.std.specs.shelf.Digits.{number}
 use Rattle.std.specs.declared.option.Option.{Option}
 use Rattle.std.specs.declared.result.Result.{Result}
 use Rattle.std.specs.declared.result.Result.the-variants.{Ok, Err}
-use Rattle.readers.specs.Limits.{limited}
-use Rattle.readers.specs.Results.{andThen}
-use Rattle.readers.specs.declared.fault.Fault.{Fault}
-use Rattle.readers.specs.declared.fault.Fault.the-variants.{NoHeader, HeaderLimit, ImageLength, LargeCell}
-use Rattle.readers.specs.declared.shape.Dims.{Dims}
+use Rattle.shapes.specs.Limits.{limited}
+use Rattle.shapes.specs.Results.{andThen}
+use Rattle.shapes.specs.declared.fault.Fault.{Fault}
+use Rattle.shapes.specs.declared.fault.Fault.the-variants.{NoHeader, HeaderLimit, ImageLength, LargeCell}
+use Rattle.shapes.specs.declared.shape.Dims.{Dims}
 use Rattle.table.specs.Sizes.{width, cellCount, cellsLength, headerLength, imageLength}
 
 -- What a table holds: a shape's five numbers, and a word for each cell, block after block.

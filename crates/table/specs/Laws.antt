@@ -4,7 +4,7 @@ use mathlib.Core.Path.{_≡_}
 use mathlib.Core.List.{List}
 use lib.ListN.{length, getD}
 use Rattle.std.specs.declared.result.Result.the-variants.{Ok}
-use Rattle.readers.specs.Limits.{InLimits}
+use Rattle.shapes.specs.Limits.{InLimits}
 use Rattle.table.specs.Sizes.{cellCount}
 use Rattle.table.specs.Images.{Content, image, opening}
 

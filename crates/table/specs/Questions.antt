@@ -8,10 +8,10 @@ use Rattle.std.specs.declared.result.Result.{Result}
 use Rattle.std.specs.declared.result.Result.the-variants.{Ok}
 use Rattle.span.specs.Fillings.{xorOver}
 use Rattle.readers.specs.Meaning.{Meaning, Clause, readFor}
-use Rattle.readers.specs.Results.{andThen}
-use Rattle.readers.specs.declared.fault.Caller.the-variants.{Table}
-use Rattle.readers.specs.declared.fault.Fault.{Fault}
-use Rattle.readers.specs.declared.shape.Dims.{Dims}
+use Rattle.shapes.specs.Results.{andThen}
+use Rattle.shapes.specs.declared.fault.Caller.the-variants.{Table}
+use Rattle.shapes.specs.declared.fault.Fault.{Fault}
+use Rattle.shapes.specs.declared.shape.Dims.{Dims}
 use Rattle.table.specs.declared.reply.Reply.{Reply}
 use Rattle.table.specs.declared.reply.Reply.the-variants.{No, Maybe}
 use Rattle.table.specs.Images.{Content, wordsIn, contentOf, sizing, opening}

@@ -1,6 +1,6 @@
 -- The sizes that follow from a shape's five numbers.
 use Prim.Native.Nat.{ℕ, _+_, _*_, _/_}
-use Rattle.readers.specs.declared.shape.Dims.{Dims}
+use Rattle.shapes.specs.declared.shape.Dims.{Dims}
 
 -- The bytes of a cell: s + r bits, in whole bytes.
 abbrev pub width : Dims → ℕ

@@ -3,8 +3,8 @@ use mathlib.Core.Path.{_≡_}
 use lib.ListN.{length}
 use Rattle.std.specs.Results.{mapped}
 use Rattle.std.specs.declared.result.Result.{Result}
-use Rattle.readers.specs.declared.fault.Fault.{Fault}
-use Rattle.readers.specs.declared.shape.Dims.{Dims}
+use Rattle.shapes.specs.declared.fault.Fault.{Fault}
+use Rattle.shapes.specs.declared.shape.Dims.{Dims}
 use Rattle.table.specs.Sizes.{cellsLength}
 use Rattle.table.specs.Images.{Content, contentOf}
 use Rattle.table.specs.declared.table.Table.{Table}

@@ -10,7 +10,7 @@ ghost use Rattle.table.specs.Questions.{xorIn};
 ghost use Rattle.table.specs.Sizes.{width};
 use crate::sizes;
 use gf2::sets::CellSet;
-use readers::shape::Shape;
+use shapes::shape::Shape;
 
 // The word in the bytes of a cell.
 fn word(cell: &[u8]) -> u64

@@ -1,9 +1,9 @@
 // The sizes that follow from a shape.
 ghost use mathlib.Core.Path.{_≡_};
 ghost use Prim.Native.Nat.{_+_, _*_, _≤_};
-ghost use Rattle.readers.specs.Limits.{mostCells, mostBlocks};
+ghost use Rattle.shapes.specs.Limits.{mostCells, mostBlocks};
 ghost use Rattle.table.specs.Sizes.{width, cellCount, cellsLength, headerLength, imageLength};
-use readers::shape::Shape;
+use shapes::shape::Shape;
 
 // The bytes before the cells.
 pub const HEADER: usize = 8;

@@ -1,5 +1,5 @@
 // A table that borrows its cells from an image. It is made only by opening one.
-use readers::shape::Dims;
+use shapes::shape::Dims;
 
 mod ask;
 mod open;

@@ -10,11 +10,11 @@ use crate::reply::Reply;
 use crate::sizes;
 use crate::table::Table;
 use gf2::sets::CellSet;
-use readers::fault::Caller;
-use readers::fault::Fault;
 use readers::reader::Reader;
 use readers::reader::clause_for;
-use readers::shape::Shape;
+use shapes::fault::Caller;
+use shapes::fault::Fault;
+use shapes::shape::Shape;
 
 impl Table<'_> {
     // The reply to a key, read by the reader that the table was made with.

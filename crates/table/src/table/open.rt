@@ -5,16 +5,16 @@ ghost use lib.ListN.{drop};
 ghost use Rattle.std.specs.Results.{mapped};
 ghost use Rattle.std.specs.Vec.{made};
 ghost use Rattle.std.specs.declared.result.Result.the-variants.{Ok};
-ghost use Rattle.readers.specs.Limits.{dimsIn};
+ghost use Rattle.shapes.specs.Limits.{dimsIn};
 ghost use Rattle.table.specs.Sizes.{headerLength};
 ghost use Rattle.table.specs.Images.{heading, sizing, fitting, opening};
 ghost use Rattle.table.specs.Tables.{Whole, content, contentIn, headIn};
 use crate::cells;
 use crate::sizes;
 use crate::table::Table;
-use readers::fault::Fault;
-use readers::shape::Dims;
-use readers::shape::Shape;
+use shapes::fault::Fault;
+use shapes::shape::Dims;
+use shapes::shape::Shape;
 
 // The version of image that is read.
 const VERSION: u8 = 1;

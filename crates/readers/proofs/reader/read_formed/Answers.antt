@@ -1,6 +1,6 @@
 use mathlib.Core.Path.{sym}
 use Rattle.readers.specs.Meaning.{clauseMeant, reply-formed}
-use Rattle.readers.proofs.Shapes.{shape-limits}
+use Rattle.shapes.proofs.Limits.{shape-limits}
 use Rattle.readers.proofs.reader.read_formed.Needs as need
 
 pub returns-in-Ok : need.returns-in-Ok

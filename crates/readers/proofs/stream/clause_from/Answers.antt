@@ -2,7 +2,7 @@ use mathlib.Core.Path.{_∙_}
 use native.Mathlib.Omega.{arith}
 use Rattle.readers.specs.Stream.{word}
 use Rattle.readers.proofs.Drawing.{clauseOf-same}
-use Rattle.readers.proofs.Shapes.{shape-limits}
+use Rattle.shapes.proofs.Limits.{shape-limits}
 use Rattle.readers.proofs.stream.clause_from.Needs as need
 
 pub returns : need.returns

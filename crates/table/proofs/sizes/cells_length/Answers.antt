@@ -1,7 +1,7 @@
 use Prim.Native.Nat.{_*_, _≤_}
 use mathlib.Core.Path.{sym, ap₂, subst}
-use Rattle.readers.proofs.Shapes.{shape-limits}
-use Rattle.readers.specs.Limits.{mostCells, mostBlocks}
+use Rattle.shapes.proofs.Limits.{shape-limits}
+use Rattle.shapes.specs.Limits.{mostCells, mostBlocks}
 use Rattle.table.proofs.Bounds.{cells-most}
 use Rattle.table.proofs.sizes.cells_length.Needs as need
 

@@ -3,7 +3,7 @@ use mathlib.Core.Path.{_≡_, refl, sym, ap, ap₂, subst, _∙_}
 use native.Mathlib.Nat.{div-le-self}
 use native.Mathlib.Omega.{arith}
 use lib.ListN.{length}
-use Rattle.readers.proofs.Shapes.{shape-limits}
+use Rattle.shapes.proofs.Limits.{shape-limits}
 use Rattle.table.specs.Sizes.{width}
 use Rattle.table.specs.Images.{wordsIn, below}
 use Rattle.table.specs.Tables.{content}

@@ -3,7 +3,7 @@ use mathlib.Core.Path.{_≡_, ap, ap₂, _∙_}
 use native.Mathlib.Omega.{arith}
 use borrow.Author.Needs.{needs}
 use lib.ListN.{length}
-use Rattle.readers.proofs.Shapes.{shape-limits}
+use Rattle.shapes.proofs.Limits.{shape-limits}
 use Rattle.span.specs.Fillings.{xorOver}
 use Rattle.gf2.specs.Masks.{mask}
 use Rattle.table.specs.Sizes.{width}

@@ -1,10 +1,15 @@
 // Why a call is refused: one type for the whole library.
 ghost use mathlib.Core.Path.{_≡_};
-ghost use Rattle.readers.specs.Faults.{named};
-ghost use Rattle.readers.specs.declared.fault.Fault.the-variants.{TurnedDown};
-use crate::clause::Refusal;
-use crate::clause::RefusalDebug;
-use crate::clause::RefusalPartialEq;
+ghost use Rattle.shapes.specs.Faults.{named};
+ghost use Rattle.shapes.specs.declared.fault.Fault.the-variants.{TurnedDown};
+
+// Why and where a reader turns a key down, and how many layers stand above the reader that did so, up to 255.
+#[derive(Clone, Copy, PartialEq, Eq, Debug)]
+pub struct Refusal {
+    pub reason: u16,
+    pub place: u32,
+    pub depth: u8,
+}
 
 // The part of the library that a fault comes from.
 #[derive(Clone, Copy, PartialEq, Eq, Debug)]

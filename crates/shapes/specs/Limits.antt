@@ -5,9 +5,9 @@ use lib.Dec.{ltb, eqb}
 use Rattle.std.specs.Results.{mapped}
 use Rattle.std.specs.declared.result.Result.{Result}
 use Rattle.std.specs.declared.result.Result.the-variants.{Ok, Err}
-use Rattle.readers.specs.declared.fault.Fault.{Fault}
-use Rattle.readers.specs.declared.shape.Dims.{Dims}
-use Rattle.readers.specs.declared.shape.Shape.{Shape}
+use Rattle.shapes.specs.declared.fault.Fault.{Fault}
+use Rattle.shapes.specs.declared.shape.Dims.{Dims}
+use Rattle.shapes.specs.declared.shape.Shape.{Shape}
 
 -- The most cells in a block, and the most blocks.
 abbrev pub mostCells : ℕ

@@ -1,11 +1,11 @@
 -- The number, the place and the layer of each fault.
 use Prim.Native.Nat.{ℕ}
-use Rattle.readers.specs.declared.fault.Fault.{Fault}
-use Rattle.readers.specs.declared.fault.Fault.the-variants.{ShapeLimit, FewRows, NotAdmitted, LongKey, TurnedDown, LargeNotice, Conflict, NoBlock, NoCell, ShortBuffer, NoHeader, HeaderLimit, ImageLength, LargeCell}
-use Rattle.readers.specs.declared.fault.Caller.{Caller}
-use Rattle.readers.specs.declared.fault.Caller.the-variants as caller
-use Rattle.readers.specs.declared.fault.Layer.{Layer}
-use Rattle.readers.specs.declared.fault.Layer.the-variants as layer
+use Rattle.shapes.specs.declared.fault.Fault.{Fault}
+use Rattle.shapes.specs.declared.fault.Fault.the-variants.{ShapeLimit, FewRows, NotAdmitted, LongKey, TurnedDown, LargeNotice, Conflict, NoBlock, NoCell, ShortBuffer, NoHeader, HeaderLimit, ImageLength, LargeCell}
+use Rattle.shapes.specs.declared.fault.Caller.{Caller}
+use Rattle.shapes.specs.declared.fault.Caller.the-variants as caller
+use Rattle.shapes.specs.declared.fault.Layer.{Layer}
+use Rattle.shapes.specs.declared.fault.Layer.the-variants as layer
 
 pub record Named : Type 0 where
   pub number : ℕ

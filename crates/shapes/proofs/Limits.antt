@@ -1,6 +1,6 @@
 -- The limits of a checked shape, as the definitions say them.
-use Rattle.readers.specs.Limits.{InLimits}
-use Rattle.readers.specs.declared.shape.Shape.{Shape}
+use Rattle.shapes.specs.Limits.{InLimits}
+use Rattle.shapes.specs.declared.shape.Shape.{Shape}
 
 pub shape-limits : (shape : Shape) → InLimits (shape .dims)
 shape-limits shape = record {

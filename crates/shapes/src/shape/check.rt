@@ -1,7 +1,7 @@
 // The one way to make a shape, and its numbers.
 ghost use mathlib.Core.Path.{_≡_};
-ghost use Rattle.readers.specs.Limits.{InLimits, outside, placed, limited, dimsIn};
-ghost use Rattle.readers.specs.declared.fault.Fault.the-variants.{ShapeLimit};
+ghost use Rattle.shapes.specs.Limits.{InLimits, outside, placed, limited, dimsIn};
+ghost use Rattle.shapes.specs.declared.fault.Fault.the-variants.{ShapeLimit};
 use crate::fault::Fault;
 use crate::shape::Dims;
 use crate::shape::Shape;

@@ -5,8 +5,8 @@ use mathlib.Core.Bool.{Bool, true, false, cond, _||_}
 use native.Mathlib.Omega.{arith}
 use lib.Dec.{ltb}
 use Rattle.std.proofs.shelf.Tests.{ltb-false, le-ltb, or-parts, or-from, cond-false}
-use Rattle.readers.specs.Limits.{InLimits, outside}
-use Rattle.readers.specs.declared.shape.Dims.{Dims}
+use Rattle.shapes.specs.Limits.{InLimits, outside}
+use Rattle.shapes.specs.declared.shape.Dims.{Dims}
 
 -- the place of a test that passes is not 0
 passes : (b : Bool) (place next : ℕ) → cond b (suc place) next ≡ 0 → (b ≡ false) × (next ≡ 0)
