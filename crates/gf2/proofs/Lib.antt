@@ -1,1 +1,5 @@
 pub mod Values
+pub mod Common
+pub mod States
+pub mod Views
+pub mod Filled

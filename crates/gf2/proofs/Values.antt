@@ -1,6 +1,6 @@
 -- The number that words stand for: membership and XOR go word by word, for any number of words.
 use mathlib.Core.Path.{_≡_, refl, sym, ap, ap₂, _∙_}
-use mathlib.Core.Bool.{Bool, true, false, cond}
+use mathlib.Core.Bool.{Bool, true, false, cond, true≢false}
 use mathlib.Core.List.{List, [], _∷_}
 use mathlib.Core.Logic.{_⊎_, inl, inr}
 use Prim.Native.Nat.{ℕ, zero, suc, _+_, _-_, _*_, _/_, _%_, _^_, _<_, _≤_}
@@ -16,9 +16,9 @@ use Rattle.std.proofs.shelf.Bits.{one-shl}
 use Rattle.std.proofs.shelf.Elements.{all-from-getD}
 use Rattle.std.proofs.shelf.Lists.{getD-past}
 use Rattle.std.proofs.shelf.Tests.{cases-lt, lt-ltb}
-use Rattle.span.specs.Sets.{isOne, has, Lowest}
-use Rattle.span.proofs.Bits.{has-zero, has-half, has-first}
-use Rattle.gf2.specs.Masks.{Fit, value, toggledIn}
+use Rattle.span.specs.Sets.{isOne, has, differs, Lowest}
+use Rattle.span.proofs.Bits.{has-xor, has-zero, has-half, has-first, has-pow, has-pow-other}
+use Rattle.gf2.specs.Masks.{Fit, value, width, toggledIn, PutIn}
 
 -- each word has 64 bits
 abbrev pub Small : List ℕ → Type 0
@@ -80,6 +80,13 @@ pub past : (ws : List ℕ) (c : ℕ) → Fit ws → length ws ≤ c / 64 → fal
 past ws c fits h =
     sym (has-words ws (small ws fits) c ∙ ap (λ (x : ℕ). has x (c % 64)) (getD-past ws (c / 64) 0 h) ∙ has-zero (c % 64))
 
+-- a cell that is in the set is below its width
+pub inside : (ws : List ℕ) (c : ℕ) → Fit ws → 64 * length ws ≡ width → true ≡ has (value ws) c → c < width
+inside ws c fits w t = elim (cases-lt (c / 64) (length ws)) [
+  | inl h ↦ omega arith
+  | inr h ↦ absurd (true≢false (t ∙ sym (past ws c fits h)))
+]
+
 -- ---- one cell toggled
 
 flip : (ws : List ℕ) (c : ℕ) → Small ws → c / 64 < length ws
@@ -114,6 +121,24 @@ toggle-in ws c fits h =
     ∙ flip ws c (small ws fits) h
     ∙ sym (ap (λ (t : Bool). cond t (bitXor (value ws) (2 ^ c)) (value ws)) (lt-ltb c (64 * length ws) within))
 
+-- a cell below the width is turned over
+pub toggled-is : (m c : ℕ) → c < width → toggledIn width m c ≡ bitXor m (2 ^ c)
+toggled-is m c h = ap (λ (t : Bool). cond t (bitXor m (2 ^ c)) m) (lt-ltb c width h)
+
+-- a cell that was not in the set is put in by toggling it
+pub toggled-in : (m c r : ℕ) → c < width → false ≡ has m c → r ≡ toggledIn width m c → PutIn m c r
+toggled-in m c r h out is = record {
+  here = ap (λ (x : ℕ). has x c) flipped ∙ has-xor m (2 ^ c) c ∙ ap₂ differs (sym out) (has-pow c);
+  elsewhere = λ d ne. ap (λ (x : ℕ). has x d) flipped ∙ has-xor m (2 ^ c) d ∙ ap (differs (has m d)) (has-pow-other c d ne) ∙ differs-none (has m d);
+}
+  where
+    flipped : r ≡ bitXor m (2 ^ c)
+    flipped = is ∙ toggled-is m c h
+
+    differs-none : (b : Bool) → differs b false ≡ b
+    differs-none true = refl
+    differs-none false = refl
+
 -- ---- the lowest cell
 
 low-bits : (n t : ℕ) → ((j : ℕ) → j < t → has (n / 2) j ≡ false) → n % 2 ≡ 0 → (j : ℕ) → j < suc t → has n j ≡ false
@@ -133,7 +158,7 @@ trail-step k n h p zero e rest =
 trail-step k n h p (suc d) e rest = (omega arith, (has-first n ∙ ap isOne e, λ j l. absurd (omega arith)))
 
 -- what `trailing_zeros` tells of a word that is not 0
-trail : (k n : ℕ) → n < 2 ^ k → 0 < n → (trailingZeros k n < k) × Lowest n (trailingZeros k n)
+pub trail : (k n : ℕ) → n < 2 ^ k → 0 < n → (trailingZeros k n < k) × Lowest n (trailingZeros k n)
 unfolding trailingZeros
 trail zero n h p = absurd (omega arith)
 trail (suc k) n h p = trail-step k n h p (n % 2) refl (trail k (n / 2))
@@ -166,6 +191,13 @@ no-words (w ∷ ws) z =
     let first : w ≡ 0 = z 0 (omega arith) in
     let rest : value ws ≡ 0 = no-words ws (λ k h. z (suc k) (omega arith)) in
     omega arith
+
+-- words that stand for 0 are 0
+pub words-zero : (ws : List ℕ) → value ws ≡ 0 → (i : ℕ) → getD ws i 0 ≡ 0
+unfolding value
+words-zero [] z i = refl
+words-zero (w ∷ ws) z zero = omega arith
+words-zero (w ∷ ws) z (suc i) = words-zero ws (omega arith) i
 
 -- ---- the symmetric difference
 

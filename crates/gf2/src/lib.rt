@@ -1,3 +1,10 @@
 // Elimination over GF(2). It knows nothing of keys: below it are sets of cells and the rows over them.
+mod elimination;
+pub mod kinds;
+pub mod marked;
+pub mod row;
+pub mod seen;
 pub mod sets;
-mod words;
+pub mod sizes;
+
+pub use elimination::rows;

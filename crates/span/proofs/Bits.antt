@@ -1,12 +1,12 @@
 -- Laws of membership.
 use mathlib.Core.Path.{_≡_, refl, sym, ap, ap₂, subst, _∙_}
 use mathlib.Core.Logic.{_⊎_, inl, inr}
-use mathlib.Core.Bool.{Bool, true, false, true≢false}
-use Prim.Native.Nat.{ℕ, zero, suc, _+_, _-_, _/_, _%_, _^_, _<_}
+use mathlib.Core.Bool.{Bool, true, false, cond, true≢false}
+use Prim.Native.Nat.{ℕ, zero, suc, _+_, _-_, _/_, _%_, _^_, _≤_, _<_}
 use native.Mathlib.Nat.{mod-lt, zero-lt-suc, zero-div, div-one, div-self, div-eq-of-lt, mul-mod-left, pow-suc, not-suc-le-zero}
 use native.Mathlib.Decide.{ℕ-discrete as decEq, decLt}
 use native.Mathlib.Omega.{arith}
-use lib.Bits.{bitXor, xor-shr, xor-mod}
+use lib.Bits.{bitXor, bitAnd, xor-shr, xor-mod, and-shr, and-mod}
 use lib.Arith.{bin-ind}
 use lib.Pow.{shr-shr, pow-pos, pow-lt, pow-add, shl-shr}
 use Rattle.span.specs.Sets.{isOne, has, differs, Lowest, Within}
@@ -27,6 +27,36 @@ has-xor a b c =
     ap (λ (x : ℕ). isOne (x % 2)) (xor-shr a b c)
     ∙ ap isOne (xor-mod (a / 2 ^ c) (b / 2 ^ c) 1)
     ∙ digit-xor (a / 2 ^ c % 2) (b / 2 ^ c % 2) (mod-lt (a / 2 ^ c) (zero-lt-suc 1)) (mod-lt (b / 2 ^ c) (zero-lt-suc 1))
+
+-- two digits, both of them one
+digit-and : (x y : ℕ) → x < 2 → y < 2 → isOne (bitAnd x y) ≡ cond (isOne x) (isOne y) false
+digit-and zero y hx hy = refl
+digit-and (suc zero) zero hx hy = refl
+digit-and (suc zero) (suc zero) hx hy = refl
+digit-and (suc zero) (suc (suc y)) hx hy = absurd (omega arith)
+digit-and (suc (suc x)) y hx hy = absurd (omega arith)
+
+-- what both of two sets hold
+pub has-and : (a b c : ℕ) → has (bitAnd a b) c ≡ cond (has a c) (has b c) false
+unfolding has
+has-and a b c =
+    ap (λ (x : ℕ). isOne (x % 2)) (and-shr a b c)
+    ∙ ap isOne (and-mod (a / 2 ^ c) (b / 2 ^ c) 1)
+    ∙ digit-and (a / 2 ^ c % 2) (b / 2 ^ c % 2) (mod-lt (a / 2 ^ c) (zero-lt-suc 1)) (mod-lt (b / 2 ^ c) (zero-lt-suc 1))
+
+-- a number of k bits is a set below k
+pub has-past : (m k c : ℕ) → m < 2 ^ k → k ≤ c → has m c ≡ false
+unfolding has
+has-past m k c h l = ap (λ (x : ℕ). isOne (x % 2)) (div-eq-of-lt (below (decEq k c)))
+  where
+    below : Dec (k ≡ c) → m < 2 ^ c
+    below (yes e) = subst (λ (x : ℕ). m < 2 ^ x) e h
+    below (no e) = let p : 2 ^ k < 2 ^ c = pow-lt (omega arith) in omega arith
+
+-- a set with its lowest s places cut off
+pub has-shifted : (m s c : ℕ) → has (m / 2 ^ s) c ≡ has m (s + c)
+unfolding has
+has-shifted m s c = ap (λ (x : ℕ). isOne (x % 2)) (shr-shr m s c)
 
 -- a row that does not hold the cell leaves it as it is
 pub has-xor-other : (a b c : ℕ) → has a c ≡ false → has (bitXor a b) c ≡ has b c

@@ -1,3 +1,10 @@
 pub mod Sets
+pub mod Lead
+pub mod Kinds
+pub mod Echelon
 pub mod Fillings
+pub mod Held
+pub mod Slots
+pub mod Marked
+pub mod Blocks
 pub mod Theorems

@@ -1,7 +1,0 @@
-use mathlib.Core.Path.{refl}
-use Rattle.gf2.specs.Masks.{value}
-use Rattle.gf2.proofs.sets.CellSet.empty.Needs as need
-
-pub returns : need.returns
-unfolding value
-returns c = refl

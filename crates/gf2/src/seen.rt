@@ -1,0 +1,13 @@
+// What is said of values is said of their words and slot sets: each function's contract is one theorem.
+ghost use Rattle.gf2.specs.Seen.{Reduction-is-seen, Binding-is-seen};
+use crate::marked::Marked;
+
+// A reduction of rows is one of their words and slot sets.
+pub fn reduction_is_seen<K: Marked>()
+    ensures { λ _. ⌜ Reduction-is-seen (K·Answer .mean) (K·Answer .kind) (K·Marked .view) ⌝ }
+{}
+
+// A row put among rows is put among their words and slot sets.
+pub fn binding_is_seen<K: Marked>()
+    ensures { λ _. ⌜ Binding-is-seen (K·Answer .mean) (K·Answer .kind) (K·Marked .view) ⌝ }
+{}
