@@ -2,7 +2,7 @@
 use mathlib.Core.Path.{_≡_, refl, sym, ap, ap₂, _∙_}
 use mathlib.Core.Bool.{Bool, true, false, cond, true≢false}
 use mathlib.Core.List.{List}
-use mathlib.Core.Logic.{_⊎_, inl, inr}
+use mathlib.Core.Logic.{inl, inr}
 use Prim.Native.Nat.{ℕ, _+_, _-_, _*_, _/_, _%_, _^_, _<_, _≤_}
 use native.Mathlib.Omega.{arith}
 use lib.Bits.{bitAnd, and-le-l}
@@ -10,7 +10,7 @@ use lib.Count.{trailingZeros}
 use lib.ListN.{length, getD}
 use lib.Pow.{shr-le}
 use Rattle.std.proofs.shelf.Tests.{cases-lt}
-use Rattle.span.specs.Sets.{has, Lowest}
+use Rattle.span.specs.Sets.{has}
 use Rattle.span.proofs.Bits.{has-and, has-past, has-shifted, has-zero}
 use Rattle.gf2.specs.Masks.{Fit, value, NoCommon, FirstCommon}
 use Rattle.gf2.proofs.Values.{small, has-words, past, trail}

@@ -1,5 +1,5 @@
 -- Rows whose values are seen as words with slot sets.
-use mathlib.Core.Path.{_≡_, refl, sym, ap, ap₂, subst, subst₂, _∙_}
+use mathlib.Core.Path.{_≡_, refl, sym, subst, subst₂}
 use mathlib.Core.List.{List, [], _∷_, map}
 use Prim.Native.Nat.{ℕ, zero, suc, _+_}
 use lib.ListN.{getD}
@@ -10,7 +10,7 @@ use Rattle.span.proofs.Maps.{rowWith, Mapped, echelon-back, clear-map, added-ma
 use Rattle.gf2.specs.Kinds.{Seen}
 use Rattle.gf2.specs.Masks.{mask}
 use Rattle.gf2.specs.Rows.{rowOf, stateOf, blockOf}
-use Rattle.gf2.specs.Seen.{Reduction-is-seen, Binding-is-seen}
+use Rattle.gf2.specs.Theorems.{Reduction-is-seen, Binding-is-seen}
 use Rattle.gf2.specs.declared.row.Row.{Row as Record}
 
 module _ {K A : Type 0} (mean : K → A) (kind : Kind A) (view : K → Full) (seen : Seen mean kind view) where

@@ -1,5 +1,5 @@
 pub mod Masks
 pub mod Kinds
 pub mod Rows
-pub mod Seen
 pub mod Fills
+pub mod Theorems

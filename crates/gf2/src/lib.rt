@@ -3,8 +3,8 @@ mod elimination;
 pub mod kinds;
 pub mod marked;
 pub mod row;
-pub mod seen;
 pub mod sets;
 pub mod sizes;
+pub mod theorems;
 
 pub use elimination::rows;

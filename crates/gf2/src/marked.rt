@@ -16,7 +16,8 @@ use crate::kinds::Word;
 use crate::kinds::WordAnswer;
 use crate::sets::CellSet;
 
-// A value is seen as a word with a slot set; `blame` is what the slots say that a conflict shows.
+// A value is seen as a word with a slot set (`view`), by a map that keeps sums (`seen`). `marks` says how its word is read and a slot marked,
+// and `blame` what the slots say that are left of an entry in conflict.
 pub trait Marked: Answer {
     ghost view: { Self → Full };
 

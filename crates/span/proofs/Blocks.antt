@@ -11,7 +11,7 @@ use Rattle.span.specs.Echelon.{Row, put}
 use Rattle.span.specs.Fillings.{SatisfiesAll, Below, Solvable}
 use Rattle.span.specs.Held.{FitsAll, Held, IsTable}
 use Rattle.span.specs.Blocks.{Placed, of, SatisfiesEach, SolvableIn, HeldIn, FitsIn, BoundIn, IsTableIn}
-use Rattle.span.proofs.Bools.{T-true}
+use Rattle.span.proofs.Bools.{T-true, not-T}
 use Rattle.span.proofs.Held.{bound-any-order, table-exists, table-same}
 
 -- an entry of the block's list is an entry of the whole list, with the block
@@ -62,6 +62,20 @@ taken-of w n x G s t = solvable-of w n (x ∷ G) .1 (λ b. go b (eqb (x .0) b) r
     go : (b : ℕ) (q : Bool) → eqb (x .0) b ≡ q → Solvable w n (put q (x .1) (of b G))
     go b true q = subst (λ (k : ℕ). Solvable w n (x .1 ∷ of k G)) (eqb→eq (x .0) b (subst T (sym q) tt)) t
     go b false q = solvable-of w n G .0 s b
+
+-- the block of an entry, and another block
+pub of-own : (x : Placed) (G : List Placed) → of (x .0) (x ∷ G) ≡ x .1 ∷ of (x .0) G
+of-own x G = ap (λ (t : Bool). put t (x .1) (of (x .0) G)) (T-true (eqb (x .0) (x .0)) (eqb-refl (x .0)))
+
+pub of-other : (x : Placed) (G : List Placed) (b : ℕ) → ¬ (x .0 ≡ b) → of b (x ∷ G) ≡ of b G
+of-other x G b ne = ap (λ (t : Bool). put t (x .1) (of b G)) (not-T (eqb (x .0) b) (λ t. ne (eqb→eq (x .0) b t)))
+
+-- whether an entry can be taken is decided by its own block
+pub own-decides : (w n : ℕ) (E H : List Placed) → HeldIn w n E H → (x : Placed) → SolvableIn w n (x ∷ H) ↔ Solvable w n (x .1 ∷ of (x .0) H)
+own-decides w n E H held x = (
+  λ s. subst (Solvable w n) (of-own x H) (solvable-of w n (x ∷ H) .0 s (x .0)),
+  taken-of w n x H (held-solvable w n E H held),
+)
 
 -- each block holds what its own enterings make it hold
 pub held-of : (w n : ℕ) (E H : List Placed) → HeldIn w n E H → (b : ℕ) → Held w n (of b E) (of b H)

@@ -68,21 +68,6 @@ module _ (w n : ℕ) where
       go (inl (s, q)) g = subst (Good w n (e ∷ E)) (sym q) (good-taken e E G (fits e (inl refl)) g s)
       go (inr (s, q)) g = subst (Good w n (e ∷ E)) (sym q) (good-conflict e E G (fits e (inl refl)) g s)
 
-  -- after each list of enterings some list is held: whether an entry is taken is decided by the reduction
-  pub holds : (E : List (Row ℕ)) → FitsAll w n E → (H : List (Row ℕ)) × Held w n E H
-  holds [] fits = ([], refl)
-  holds (e ∷ E) fits = go (holds E (λ x m. fits x (inr m)))
-    where
-      go : (G : List (Row ℕ)) × Held w n E G → (H : List (Row ℕ)) × Held w n (e ∷ E) H
-      go (G, held) = by (good E G (λ x m. fits x (inr m)) held)
-        where
-          by : Good w n E G → (H : List (Row ℕ)) × Held w n (e ∷ E) H
-          by g = on (outcome w n G (g .state) (g .stands) e (fits e (inl refl) .0))
-            where
-              on : Outcome w n G (g .state) (g .stands) e → (H : List (Row ℕ)) × Held w n (e ∷ E) H
-              on (inl (U, s)) = (e ∷ G, (G, held, inl (stands-solvable w n (e ∷ G) U s (fits-cons e G (fits e (inl refl)) (g .fits)), refl)))
-              on (inr (no-filling, c)) = (G, (G, held, inr (λ s. no-filling (s .0) (s .2), refl)))
-
   -- the cells that are bound go by what was entered, taken or not
   pub bound-by-entered : (E H : List (Row ℕ)) → FitsAll w n E → Held w n E H → (c : ℕ) → BoundBy H c ↔ BoundBy E c
   bound-by-entered E H fits held = bound-span numbers H E (span-sym numbers (cellsOf E) (cellsOf H) (good E H fits held .span))

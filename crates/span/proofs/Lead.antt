@@ -1,13 +1,14 @@
 -- Laws of the lead cell: these alone look at which end of a set leads.
 use mathlib.Core.Path.{_≡_, sym, _∙_}
 use mathlib.Core.Logic.{_⊎_, inl, inr}
-use mathlib.Core.Bool.{true, false}
-use Prim.Native.Nat.{ℕ, _<_}
+use mathlib.Core.Bool.{true, false, true≢false}
+use Prim.Native.Nat.{ℕ, _≤_, _<_}
+use native.Mathlib.Decide.{decLt}
 use native.Mathlib.Omega.{arith}
 use lib.Bits.{bitXor}
 use Rattle.span.specs.Sets.{has, Lowest, Within}
 use Rattle.span.specs.Lead.{Lead}
-use Rattle.span.proofs.Bits.{lowest-one, lowest-below, empty-or-lowest}
+use Rattle.span.proofs.Bits.{lowest-one, lowest-below, find-lowest, empty-or-lowest}
 
 -- the lowest cell leads
 pub lead-of-lowest : (m c : ℕ) → Lowest m c → Lead m c
@@ -44,3 +45,20 @@ pub lead-kept : (a b p c : ℕ) → Lead a p → c < p → Lead (bitXor a b) c �
 unfolding Lead
 lead-kept a b p c l h k =
     (sym (lowest-below a b p c l h) ∙ k .0, λ d g. sym (lowest-below a b p d l (omega arith)) ∙ k .1 d g)
+
+-- the lead cell is below n, or no lead cell is
+pub lead-below : (m n : ℕ) → ((p : ℕ) × Lead m p × (p < n)) ⊎ ((c : ℕ) → Lead m c → n ≤ c)
+unfolding Lead
+lead-below m n = go (find-lowest m n)
+  where
+    at-most : (c : ℕ) → Dec (c < n) → ¬ (c < n) → n ≤ c
+    at-most c (yes h) no-lt = absurd (no-lt h)
+    at-most c (no h) no-lt = omega arith
+
+    by : (p : ℕ) → Lowest m p → Dec (p < n) → ((q : ℕ) × Lowest m q × (q < n)) ⊎ ((c : ℕ) → Lowest m c → n ≤ c)
+    by p low (yes h) = inl (p, low, h)
+    by p low (no h) = inr (λ c l. let e : p ≡ c = lowest-one m p c low l in omega arith)
+
+    go : ((p : ℕ) × Lowest m p) ⊎ ((c : ℕ) → c < n → has m c ≡ false) → ((q : ℕ) × Lowest m q × (q < n)) ⊎ ((c : ℕ) → Lowest m c → n ≤ c)
+    go (inl (p, low)) = by p low (decLt p n)
+    go (inr none) = inr (λ c l. at-most c (decLt c n) (λ h. true≢false (sym (l .0) ∙ none c h)))

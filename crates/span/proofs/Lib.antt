@@ -17,6 +17,7 @@ pub mod Held
 pub mod Slots
 pub mod Count
 pub mod Marked
+pub mod Same
 pub mod Runs
 pub mod Once
 pub mod Blocks

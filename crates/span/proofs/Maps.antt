@@ -2,7 +2,7 @@
 use mathlib.Core.Path.{_≡_, refl, sym, ap, ap₂, subst, _∙_}
 use mathlib.Core.Bool.{Bool, true, false}
 use mathlib.Core.List.{List, _∷_, map}
-use Prim.Native.Nat.{ℕ, zero, suc, _<_}
+use Prim.Native.Nat.{ℕ, zero, suc}
 use lib.Bits.{bitXor}
 use Rattle.span.specs.Sets.{Within}
 use Rattle.span.specs.Lead.{Lead}
@@ -29,12 +29,9 @@ module _ {A B : Type 0} (h : A → B) (S : State A) (T : State B) (m : Mapped h 
       go true e = ap (λ (N : List (Row B)). rowWith h (S .row k) ∷ N) e
       go false e = e
 
-  -- both are in echelon form, or neither is
+  -- in echelon form they are together
   pub echelon-back : (n : ℕ) → Echelon n T → Echelon n S
   echelon-back n ech c l b = subst (λ (v : Row B). Lead (v .0) c × Within n (v .0)) (m .row c) (ech c l (m .bound c ∙ b))
-
-  pub echelon-map : (n : ℕ) → Echelon n S → Echelon n T
-  echelon-map n ech c l b = subst (λ (v : Row B). Lead (v .0) c × Within n (v .0)) (sym (m .row c)) (ech c l (sym (m .bound c) ∙ b))
 
   -- a set that holds no bound cell of S holds none of T
   pub clear-map : (n : ℕ) (x : ℕ) → Clear n S x → Clear n T x

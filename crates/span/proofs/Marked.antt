@@ -1,7 +1,6 @@
 -- One entry more, for every kind with words and marks: words alone, and words with slot sets, by one text.
 use mathlib.Core.Path.{_≡_, refl, sym, ap, ap₂, subst, _∙_}
-use mathlib.Core.Logic.{inl, inr}
-use mathlib.Core.Bool.{true, false, true≢false}
+use mathlib.Core.Bool.{false, true≢false}
 use mathlib.Core.List.{List, [], _∷_, map}
 use lib.ListN.{length}
 use Prim.Native.Nat.{ℕ, suc, _≤_, _<_}
@@ -12,7 +11,7 @@ use Rattle.span.specs.Kinds.{Kind, numbers, Comb, SameSpan}
 use Rattle.span.specs.Echelon.{Row, rows, State, rowsOf, Added, Reduces, Stands, Put}
 use Rattle.span.specs.Held.{cellsOf}
 use Rattle.span.specs.Slots.{chosen, ConflictSet}
-use Rattle.span.specs.Marked.{Marks, leanMarks, Full, fulls, fullMarks, wordRow, wordState, bareRow, slotRow, slotRows, StandsFor, Decided, NoSlots, Blames}
+use Rattle.span.specs.Marked.{Marks, leanMarks, Full, fulls, fullMarks, wordRow, wordState, bareRow, slotRow, slotRows, StandsFor, NoSlots, Blames}
 use Rattle.span.specs.Theorems.{Decides, Names-slots}
 use Rattle.span.proofs.Bools.{not-true}
 use Rattle.span.proofs.Lead.{lead-has}

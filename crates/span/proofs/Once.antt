@@ -5,31 +5,31 @@ use mathlib.Core.List.{List, [], _∷_}
 use Prim.Native.Nat.{ℕ}
 use Rattle.span.specs.Echelon.{Row}
 use Rattle.span.specs.Fillings.{Solvable}
-use Rattle.span.specs.Held.{FitsAll, Held, Enters, Run}
+use Rattle.span.specs.Held.{FitsAll, HeldBy, Enters, Run}
 use Rattle.span.specs.Marked.{leanMarks}
 use Rattle.span.proofs.Runs.{Standing, Verdict, verdict, run-state, run-held}
 
+-- one list is held
+pub held-one : {V : Type 0} (can : List V → Type 0) (E G H : List V) → HeldBy can E G → HeldBy can E H → G ≡ H
+held-one can [] G H p q = p ∙ sym q
+held-one {V} can (e ∷ E) G H (F, held, last) (F′, held′, last′) = go last (subst Choice (sym (held-one can E F F′ held held′)) last′)
+  where
+    Choice : List V → Type 0
+    Choice N = (can (e ∷ N) × (H ≡ e ∷ N)) ⊎ ((¬ can (e ∷ N)) × (H ≡ N))
+
+    go : (can (e ∷ F) × (G ≡ e ∷ F)) ⊎ ((¬ can (e ∷ F)) × (G ≡ F)) → Choice F → G ≡ H
+    go (inl (s, p)) (inl (t, q)) = p ∙ sym q
+    go (inl (s, p)) (inr (t, q)) = absurd (t s)
+    go (inr (s, p)) (inl (t, q)) = absurd (s t)
+    go (inr (s, p)) (inr (t, q)) = p ∙ sym q
+
 module _ (w n : ℕ) where
-  -- one list is held
-  pub held-one : (E H H′ : List (Row ℕ)) → Held w n E H → Held w n E H′ → H ≡ H′
-  held-one [] H H′ p q = p ∙ sym q
-  held-one (e ∷ E) H H′ (G, held, last) (G′, held′, last′) = go last (subst Choice (sym (held-one E G G′ held held′)) last′)
-    where
-      Choice : List (Row ℕ) → Type 0
-      Choice F = (Solvable w n (e ∷ F) × (H′ ≡ e ∷ F)) ⊎ ((¬ Solvable w n (e ∷ F)) × (H′ ≡ F))
-
-      go : (Solvable w n (e ∷ G) × (H ≡ e ∷ G)) ⊎ ((¬ Solvable w n (e ∷ G)) × (H ≡ G)) → Choice G → H ≡ H′
-      go (inl (s, p)) (inl (t, q)) = p ∙ sym q
-      go (inl (s, p)) (inr (t, q)) = absurd (t s)
-      go (inr (s, p)) (inl (t, q)) = absurd (s t)
-      go (inr (s, p)) (inr (t, q)) = p ∙ sym q
-
   -- one list stands in the slots
   pub slots-one : (E H H′ L L′ : List (Row ℕ)) → Run w n E H L → Run w n E H′ L′ → L ≡ L′
   slots-one [] H H′ L L′ (p, q) (p′, q′) = q ∙ sym q′
   slots-one (e ∷ E) H H′ L L′ (G, M, run, last) (G′, M′, run′, last′) =
       go last (subst₂ (λ (F N : List (Row ℕ)). Enters w n F N e H′ L′)
-      (sym (held-one E G G′ (run-held w n E G M run) (run-held w n E G′ M′ run′))) (sym (slots-one E G G′ M M′ run run′)) last′)
+      (sym (held-one (Solvable w n) E G G′ (run-held w n E G M run) (run-held w n E G′ M′ run′))) (sym (slots-one E G G′ M M′ run run′)) last′)
     where
       go : Enters w n G M e H L → Enters w n G M e H′ L′ → L ≡ L′
       go (inl (s, p, inl (b, q))) (inl (s′, p′, inl (b′, q′))) = q ∙ sym q′

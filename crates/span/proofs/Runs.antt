@@ -1,5 +1,5 @@
 -- Runs of enterings with slots: each has a state, over any kind with marks, and goes by its list of enterings alone.
-use mathlib.Core.Path.{_≡_, refl, sym, subst₂, _∙_}
+use mathlib.Core.Path.{_≡_, refl, sym, subst₂}
 use mathlib.Core.Logic.{_⊎_, inl, inr}
 use mathlib.Core.Bool.{false}
 use mathlib.Core.List.{List, [], _∷_}
@@ -12,7 +12,7 @@ use Rattle.span.specs.Echelon.{Row, rows, State, Reduces}
 use Rattle.span.specs.Fillings.{Solvable}
 use Rattle.span.specs.Held.{Binds, Fits, FitsAll, Held, Enters, Run}
 use Rattle.span.specs.Slots.{ConflictSet}
-use Rattle.span.specs.Marked.{Marks, Full, fulls, fullMarks, bareRow, StandsFor, Decided}
+use Rattle.span.specs.Marked.{Marks, fullMarks, bareRow, StandsFor, Decided}
 use Rattle.span.proofs.Lead.{empty-or-lead}
 use Rattle.span.proofs.Reduce.{reduces}
 use Rattle.span.proofs.Step.{reduced-within}

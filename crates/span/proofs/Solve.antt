@@ -8,7 +8,7 @@ use native.Mathlib.Decide.{ℕ-discrete as decEq}
 use lib.Bits.{bitXor, xor-zero-r, xor-lt}
 use lib.Dec.{eqb, eqb→eq, eqb-refl}
 use lib.Pow.{pow-pos}
-use Rattle.span.proofs.Bools.{T-true, not-T, not-true}
+use Rattle.span.proofs.Bools.{T-true, not-T}
 use Rattle.span.specs.Sets.{Within}
 use Rattle.span.specs.Lead.{Lead}
 use Rattle.span.specs.Kinds.{Kind, numbers, Comb}

@@ -1,15 +1,15 @@
 -- Substitution back from the last cell to the first.
 use mathlib.Core.Path.{_≡_, refl, sym, ap, ap₂, _∙_}
 use mathlib.Core.Bool.{Bool, true, false, true≢false}
-use Prim.Native.Nat.{ℕ, zero, suc, _^_, _≤_, _<_, zero-le}
+use Prim.Native.Nat.{ℕ, _^_, _≤_, _<_, zero-le}
 use native.Mathlib.Decide.{ℕ-discrete as decEq, decLe}
 use native.Mathlib.Omega.{arith}
-use lib.Bits.{bitXor, xor-zero-r, xor-comm}
+use lib.Bits.{bitXor, xor-comm}
 use Rattle.span.specs.Sets.{has, differs}
 use Rattle.span.specs.Lead.{Lead}
 use Rattle.span.specs.Kinds.{numbers}
 use Rattle.span.specs.Echelon.{State, Echelon}
-use Rattle.span.specs.Fillings.{pick, xorOver, Satisfies, SatisfiesRows, ZeroInFree, substituted, SubstitutedFrom}
+use Rattle.span.specs.Fillings.{pick, xorOver, Satisfies, SatisfiesRows, ZeroInFree, substituted}
 use Rattle.span.specs.Theorems.{Substitution-goes-down, Substitution-solves}
 use Rattle.span.proofs.Bits.{has-xor, has-xor-clear, has-pow, has-pow-other}
 use Rattle.span.proofs.Lead.{lead-has, lead-first}

@@ -1,14 +1,14 @@
 -- The theorems, put together from the lemmas.
-use mathlib.Core.Path.{subst}
+use mathlib.Core.Path.{_≡_, subst}
 use mathlib.Core.List.{List}
 use Prim.Native.Nat.{ℕ}
 use Rattle.span.specs.Kinds.{Kind}
 use Rattle.span.specs.Echelon.{Row, Reduces}
-use Rattle.span.specs.Fillings.{Below}
+use Rattle.span.specs.Fillings.{Below, Solvable}
 use Rattle.span.specs.Held.{Run, IsTable}
 use Rattle.span.specs.Marked.{Marks}
-use Rattle.span.specs.Blocks.{IsTableIn}
-use Rattle.span.specs.Theorems.{Reduction-is-one, Step-stands, Bound-is-bound, Conflict-is-conflict, Table-is-one, Rows-give-table, Held-has-table, Run-has-state, Slots-are-one, Run-is-one, Blocks-have-table}
+use Rattle.span.specs.Blocks.{of, SolvableIn, IsTableIn}
+use Rattle.span.specs.Theorems.{Reduction-is-one, Step-stands, Bound-is-bound, Conflict-is-conflict, Table-is-one, Rows-give-table, Held-has-table, Run-has-state, Slots-are-one, Run-is-one, Held-is-one, Blocks-have-runs, Blocks-have-table}
 use Rattle.span.proofs.Lead.{lead-has}
 use Rattle.span.proofs.Reduce.{reduces, reduces-one}
 use Rattle.span.proofs.Table.{table, table-rows, table-free, table-one}
@@ -19,7 +19,7 @@ use Rattle.span.proofs.Held.{Good, good}
 use Rattle.span.proofs.Slots.{chosen-one, comb-slots}
 use Rattle.span.proofs.Runs.{Standing, run-state, run-held}
 use Rattle.span.proofs.Once.{held-one, slots-one, run-exists}
-use Rattle.span.proofs.Blocks.{table-in-exists, table-in-same}
+use Rattle.span.proofs.Blocks.{held-of, fits-of, table-in-exists, table-in-same}
 
 -- each row reduces, and to one row only
 pub reduction-is-one : {A : Type 0} (K : Kind A) → Reduction-is-one K
@@ -76,8 +76,23 @@ run-is-one w n E fits =
       r .0,
       r .1,
       r .2,
-      λ H L run. (held-one w n E (r .0) H (run-held w n E (r .0) (r .1) (r .2)) (run-held w n E H L run), slots-one w n E (r .0) H (r .1) L (r .2) run),
+      λ H L run. (held-one (Solvable w n) E (r .0) H (run-held w n E (r .0) (r .1) (r .2)) (run-held w n E H L run), slots-one w n E (r .0) H (r .1) L (r .2) run),
     )
+
+-- what is held in all blocks
+pub held-is-one : Held-is-one
+held-is-one w n = held-one (SolvableIn w n)
+
+-- the runs of the blocks
+pub blocks-have-runs : Blocks-have-runs
+blocks-have-runs w n E H fits held b = go (run-exists w n (of b E) (fits-of w n E fits b))
+  where
+    go : (G : List (Row ℕ)) × (L : List (Row ℕ)) × Run w n (of b E) G L
+        → (L : List (Row ℕ)) × Run w n (of b E) (of b H) L × ((M : List (Row ℕ)) → Run w n (of b E) (of b H) M → L ≡ M)
+    go (G, L, run) =
+        let same : G ≡ of b H = held-one (Solvable w n) (of b E) G (of b H) (run-held w n (of b E) G L run) (held-of w n E H held b) in
+        let own : Run w n (of b E) (of b H) L = subst (λ (F : List (Row ℕ)). Run w n (of b E) F L) same run in
+        (L, own, λ M other. slots-one w n (of b E) (of b H) (of b H) L M own other)
 
 -- the table of all blocks
 pub blocks-have-table : Blocks-have-table

@@ -1,13 +1,12 @@
 -- Several blocks: entries with the block that each belongs to, and fillings of all blocks.
 use mathlib.Core.Path.{_≡_}
-use mathlib.Core.Logic.{_⊎_}
 use mathlib.Core.List.{List, [], _∷_}
 use Prim.Native.Nat.{ℕ, _<_}
 use lib.Dec.{eqb}
 use Rattle.span.specs.Kinds.{Member}
 use Rattle.span.specs.Echelon.{Row, put}
 use Rattle.span.specs.Fillings.{Satisfies, Below}
-use Rattle.span.specs.Held.{BoundBy, Fits}
+use Rattle.span.specs.Held.{BoundBy, Fits, HeldBy}
 
 -- An entry with its block.
 abbrev pub Placed : Type 0
@@ -30,11 +29,9 @@ SatisfiesEach n g H = (x : Placed) → Member x H → SatisfiesIn n g x
 abbrev pub SolvableIn : ℕ → ℕ → List Placed → Type 0
 SolvableIn w n H = (g : ℕ → ℕ → ℕ) × ((b : ℕ) → Below w (g b)) × SatisfiesEach n g H
 
--- H is what is held after the enterings E, the newest first.
+-- What is held in all blocks after the enterings E.
 abbrev pub HeldIn : ℕ → ℕ → List Placed → List Placed → Type 0
-HeldIn w n [] H = H ≡ []
-HeldIn w n (x ∷ E) H =
-    (G : List Placed) × HeldIn w n E G × ((SolvableIn w n (x ∷ G) × (H ≡ x ∷ G)) ⊎ ((¬ SolvableIn w n (x ∷ G)) × (H ≡ G)))
+HeldIn w n E H = HeldBy (SolvableIn w n) E H
 
 -- Each entry fits.
 abbrev pub FitsIn : ℕ → ℕ → List Placed → Type 0

@@ -53,3 +53,7 @@ Stands K n H S = Echelon n S × SameSpan (rows K) H (rowsOf S n)
 -- The state T is the state S with the row v put at the cell p.
 abbrev pub Put : {A : Type 0} → State A → ℕ → Row A → State A → Type 0
 Put S p v T = (T .bound p ≡ true) × (T .row p ≡ v) × ((c : ℕ) → ¬ (c ≡ p) → (T .bound c ≡ S .bound c) × (T .row c ≡ S .row c))
+
+-- Two states with the same bound cells and rows below n.
+abbrev pub SameBelow : {A : Type 0} → ℕ → State A → State A → Type 0
+SameBelow n S T = (c : ℕ) → c < n → (T .bound c ≡ S .bound c) × (T .row c ≡ S .row c)

@@ -33,11 +33,14 @@ Fits w n e = Within n (e .0) × (e .1 < 2 ^ w)
 abbrev pub FitsAll : ℕ → ℕ → List (Row ℕ) → Type 0
 FitsAll w n H = (e : Row ℕ) → Member e H → Fits w n e
 
--- H is what is held after the enterings E, the newest first: an entry is taken where some filling satisfies it with all that is held, and no other is.
+-- H is what is held after the enterings E, the newest first: an entry is taken where it can be held with all that is held, and no other is.
+abbrev pub HeldBy : {V : Type 0} → (List V → Type 0) → List V → List V → Type 0
+HeldBy can [] H = H ≡ []
+HeldBy {V} can (e ∷ E) H = (G : List V) × HeldBy can E G × ((can (e ∷ G) × (H ≡ e ∷ G)) ⊎ ((¬ can (e ∷ G)) × (H ≡ G)))
+
+-- What is held in one block: entries can be held together where some filling satisfies them all.
 abbrev pub Held : ℕ → ℕ → List (Row ℕ) → List (Row ℕ) → Type 0
-Held w n [] H = H ≡ []
-Held w n (e ∷ E) H =
-    (G : List (Row ℕ)) × Held w n E G × ((Solvable w n (e ∷ G) × (H ≡ e ∷ G)) ⊎ ((¬ Solvable w n (e ∷ G)) × (H ≡ G)))
+Held w n E H = HeldBy (Solvable w n) E H
 
 -- f is the table of the entries H: it satisfies them all and has zero in every cell that they do not bind.
 abbrev pub IsTable : ℕ → List (Row ℕ) → (ℕ → ℕ) → Type 0

@@ -9,7 +9,7 @@ use Prim.Native.Nat.{ℕ, suc, _+_, _*_, _/_, _%_, _^_, _<_}
 use Rattle.span.specs.Sets.{has, differs, Within}
 use Rattle.span.specs.Lead.{Lead}
 use Rattle.span.specs.Kinds.{Kind, numbers, Comb, SameEntries}
-use Rattle.span.specs.Echelon.{Row, rows, State, Echelon, Reduces, Stands, Put}
+use Rattle.span.specs.Echelon.{Row, rows, State, Echelon, Reduces, Stands, Put, SameBelow}
 use Rattle.span.specs.Fillings.{xorOver, Satisfies, SatisfiesAll, Below, Solvable, SatisfiesRows, ZeroInFree, substituted, SubstitutedFrom}
 use Rattle.span.specs.Held.{cellsOf, BoundBy, Fits, FitsAll, Held, Run, IsTable}
 use Rattle.span.specs.Slots.{chosen, Apart, ConflictSet}
@@ -128,6 +128,10 @@ Decides {A} {K} M =
 abbrev pub Words-stand : {A : Type 0} {K : Kind A} → Marks K → Type 0
 Words-stand {A} M = (n : ℕ) (H L : List (Row ℕ)) (S : State A) → StandsFor M n H L S → Stands numbers n H (wordState M S)
 
+-- For every kind with marks, a state with the same bound cells and the same rows stands for the same.
+abbrev pub Same-rows-stand : {A : Type 0} {K : Kind A} → Marks K → Type 0
+Same-rows-stand {A} M = (n : ℕ) (H L : List (Row ℕ)) (S T : State A) → SameBelow n S T → StandsFor M n H L S → StandsFor M n H L T
+
 -- For every kind with marks, each run has a state.
 abbrev pub Run-has-state : {A : Type 0} {K : Kind A} → Marks K → Type 0
 Run-has-state {A} M = (w n : ℕ) (E H L : List (Row ℕ)) → FitsAll w n E → Run w n E H L → (S : State A) × StandsFor M n H L S
@@ -153,9 +157,24 @@ Slots-are-one =
 abbrev pub Blocks-are-apart : Type 0
 Blocks-are-apart = (w n : ℕ) (H : List Placed) → SolvableIn w n H ↔ ((b : ℕ) → Solvable w n (of b H))
 
+-- Whether an entry can be taken is decided by its own block.
+abbrev pub Own-block-decides : Type 0
+Own-block-decides =
+    (w n : ℕ) (E H : List Placed) → HeldIn w n E H → (x : Placed) → SolvableIn w n (x ∷ H) ↔ Solvable w n (x .1 ∷ of (x .0) H)
+
+-- What is held goes by the list of enterings alone.
+abbrev pub Held-is-one : Type 0
+Held-is-one = (w n : ℕ) (E G H : List Placed) → HeldIn w n E G → HeldIn w n E H → G ≡ H
+
 -- Each block holds what its own enterings make it hold.
 abbrev pub Block-holds-its-own : Type 0
 Block-holds-its-own = (w n : ℕ) (E H : List Placed) → HeldIn w n E H → (b : ℕ) → Held w n (of b E) (of b H)
+
+-- Each block's own enterings are a run, with one list of slots.
+abbrev pub Blocks-have-runs : Type 0
+Blocks-have-runs =
+    (w n : ℕ) (E H : List Placed) → FitsIn w n E → HeldIn w n E H
+    → (b : ℕ) → (L : List (Row ℕ)) × Run w n (of b E) (of b H) L × ((M : List (Row ℕ)) → Run w n (of b E) (of b H) M → L ≡ M)
 
 -- The same enterings in another order, and however often, bind the same cells of each block.
 abbrev pub Blocks-in-any-order : Type 0

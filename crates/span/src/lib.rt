@@ -1,7 +1,7 @@
 // The mathematics under the elimination, with no code: each function's contract is one theorem.
 ghost use Rattle.span.specs.Kinds.{Kind};
 ghost use Rattle.span.specs.Marked.{Marks};
-ghost use Rattle.span.specs.Theorems.{Xor-is-difference, Xor-over-is-linear, Held-is-answered, Combinations-follow, Reduction-is-one, Step-stands, Bound-is-bound, Conflict-is-conflict, Table-is-one, Substitution-goes-down, Substitution-solves, Rows-give-table, Standing-is-solvable, Held-has-table, Bound-in-any-order, Same-held-same-table, Run-is-one, Run-is-held, Open-stands, Decides, Words-stand, Run-has-state, Names-slots, Conflict-names-slots, Slots-are-one, Blocks-are-apart, Block-holds-its-own, Blocks-in-any-order, Blocks-have-table, Blocks-same-table, All-held-in-any-order};
+ghost use Rattle.span.specs.Theorems.{Xor-is-difference, Xor-over-is-linear, Held-is-answered, Combinations-follow, Reduction-is-one, Step-stands, Bound-is-bound, Conflict-is-conflict, Table-is-one, Substitution-goes-down, Substitution-solves, Rows-give-table, Standing-is-solvable, Held-has-table, Bound-in-any-order, Same-held-same-table, Run-is-one, Run-is-held, Open-stands, Decides, Words-stand, Same-rows-stand, Run-has-state, Names-slots, Conflict-names-slots, Slots-are-one, Blocks-are-apart, Own-block-decides, Held-is-one, Block-holds-its-own, Blocks-have-runs, Blocks-in-any-order, Blocks-have-table, Blocks-same-table, All-held-in-any-order};
 
 // A theorem about every answer kind is about every one of these.
 pub trait AnswerKind: Sized {
@@ -124,6 +124,11 @@ pub fn words_stand<K: MarkedKind>()
     ensures { λ _. ⌜ Words-stand (K·MarkedKind .marks) ⌝ }
 {}
 
+// A state with the same bound cells and the same rows stands for the same.
+pub fn same_rows_stand<K: MarkedKind>()
+    ensures { λ _. ⌜ Same-rows-stand (K·MarkedKind .marks) ⌝ }
+{}
+
 // Each run has a state that stands for what it holds.
 pub fn run_has_state<K: MarkedKind>()
     ensures { λ _. ⌜ Run-has-state (K·MarkedKind .marks) ⌝ }
@@ -149,9 +154,24 @@ pub fn blocks_are_apart()
     ensures { λ _. ⌜ Blocks-are-apart ⌝ }
 {}
 
+// Whether an entry can be taken is decided by its own block.
+pub fn own_block_decides()
+    ensures { λ _. ⌜ Own-block-decides ⌝ }
+{}
+
+// What is held goes by the list of enterings alone.
+pub fn held_is_one()
+    ensures { λ _. ⌜ Held-is-one ⌝ }
+{}
+
 // Each block holds what its own enterings make it hold.
 pub fn block_holds_its_own()
     ensures { λ _. ⌜ Block-holds-its-own ⌝ }
+{}
+
+// Each block's own enterings are a run, with one list of slots.
+pub fn blocks_have_runs()
+    ensures { λ _. ⌜ Blocks-have-runs ⌝ }
 {}
 
 // The same enterings in another order bind the same cells of each block.

@@ -2,6 +2,7 @@
 ghost use mathlib.Core.Bool.{true, false};
 ghost use mathlib.Core.Path.{_≡_};
 ghost use Prim.Native.Nat.{_+_, _≤_, _<_};
+ghost use denote.Ref.{name};
 ghost use lib.ListN.{length};
 ghost use Rattle.std.specs.Options.{Cases as BySome};
 ghost use Rattle.gf2.specs.Fills.{NoCell, Substitution, FillingIn};
@@ -15,14 +16,17 @@ use crate::row::Block;
 use crate::row::Row;
 use crate::sets::CellSet;
 
+// A slice of rows, for one kind of answer. Each call works on one block of it.
 #[derive(Drop)]
 pub struct Rows<'a, K> {
     records: &'a mut [Row<K>],
 }
 
 impl<'a, K: Answer> Rows<'a, K> {
+    // The rows that are lent. They are the lender's own (`lent`), so what is done to them it finds done.
     pub fn over(records: &'a mut [Row<K>]) -> Rows<'a, K>
-        ensures { λ r. ⌜ now (r .records) ≡ now (records .entry) ⌝ }
+        ensures held { λ r. ⌜ now (r .records) ≡ now (records .entry) ⌝ }
+        ensures lent { λ r. ⌜ name (r .records) ≡ name (records .entry) ⌝ }
     {
         Rows { records }
     }
@@ -45,9 +49,11 @@ impl<'a, K: Answer> Rows<'a, K> {
         }
     }
 
-    // Puts the row at its lead cell, and gives the block's bound set with that cell. Nothing is altered where the block has no such cell.
+    // Puts the row at its lead cell, and gives the block's bound set with that cell.
+    // Nothing is altered where the block has no such cell, or its rows are not all there.
     pub fn bind(&mut self, block: Block, row: Row<K>) -> CellSet
-        ensures { λ r. ⌜ BindingIn (K·Answer .mean) (K·Answer .kind) (now (now (self .entry) .records)) block row (now (now (self .exit) .records)) (mask r) ⌝ }
+        ensures lent { λ _. ⌜ name (now (self .exit) .records) ≡ name (now (self .entry) .records) ⌝ }
+        ensures bound { λ r. ⌜ BindingIn (K·Answer .mean) (K·Answer .kind) (now (now (self .entry) .records)) block row (now (now (self .exit) .records)) (mask r) ⌝ }
     {
         if is_there(self.len(), block) {
             elimination::bind(self.records, block, row)
@@ -55,14 +61,6 @@ impl<'a, K: Answer> Rows<'a, K> {
             block.bound
         }
     }
-}
-
-// Whether a slice of this length has all rows of the block.
-fn is_there(len: usize, block: Block) -> bool
-    ensures yes { λ r. ⌜ (r ≡ true → block .start + block .n ≤ len) ⌝ }
-    ensures no { λ r. ⌜ (r ≡ false → len < block .start + block .n) ⌝ }
-{
-    block.start <= len && block.n <= len - block.start
 }
 
 impl<'a, K: Marked> Rows<'a, K> {
@@ -89,4 +87,12 @@ impl<'a, K: Marked> Rows<'a, K> {
             false
         }
     }
+}
+
+// Whether a slice of this length has all rows of the block.
+fn is_there(len: usize, block: Block) -> bool
+    ensures yes { λ r. ⌜ (r ≡ true → block .start + block .n ≤ len) ⌝ }
+    ensures no { λ r. ⌜ (r ≡ false → len < block .start + block .n) ⌝ }
+{
+    block.start <= len && block.n <= len - block.start
 }

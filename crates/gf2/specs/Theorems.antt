@@ -1,9 +1,11 @@
--- What is said of the values of an answer kind is said of them as words with slot sets.
+-- What follows of rows: their values seen as words with slot sets, and blocks side by side.
 use mathlib.Core.List.{List}
-use Prim.Native.Nat.{ℕ}
+use mathlib.Core.Logic.{_⊎_}
+use Prim.Native.Nat.{ℕ, _+_, _≤_}
 use Rattle.span.specs.Kinds.{Kind}
+use Rattle.span.specs.Echelon.{SameBelow}
 use Rattle.span.specs.Marked.{Full, fulls}
-use Rattle.gf2.specs.Rows.{Reduction, Binding}
+use Rattle.gf2.specs.Rows.{blockOf, Reduction, Binding, BindingIn}
 use Rattle.gf2.specs.declared.row.Row.{Row as Record}
 use Rattle.gf2.specs.declared.row.Block.{Block}
 
@@ -17,3 +19,14 @@ abbrev pub Binding-is-seen : {K A : Type 0} → (K → A) → Kind A → (K → 
 Binding-is-seen {K} mean kind view =
     (records : List (Record K)) (block : Block) (row : Record K) (records′ : List (Record K)) (bound′ : ℕ)
     → Binding mean kind records block row records′ bound′ → Binding view fulls records block row records′ bound′
+
+-- The two blocks have no place in common.
+abbrev pub Disjoint : Block → Block → Type 0
+Disjoint a b = (a .start + a .n ≤ b .start) ⊎ (b .start + b .n ≤ a .start)
+
+-- A row put in one block leaves the rows of every other as they were.
+abbrev pub Others-stay : {K A : Type 0} → (K → A) → Kind A → Type 0
+Others-stay {K} mean kind =
+    (records : List (Record K)) (block : Block) (row : Record K) (records′ : List (Record K)) (bound′ : ℕ)
+    → BindingIn mean kind records block row records′ bound′
+    → (other : Block) → Disjoint block other → SameBelow (other .n) (blockOf mean kind records other) (blockOf mean kind records′ other)
