@@ -35,6 +35,7 @@ module _ {K A : Type 0} (mean : K → A) (kind : Kind A) (view : K → Full) (se
       let T = blockOf view fulls records block in
       let m = state-seen records (block .start) (mask (block .bound)) in
       record {
+        there = d .there;
         added = subst₂ (Added fulls (block .n) T) (row-seen q) (row-seen r)
             (added-map (seen .through) S T m kind fulls (seen .of-none) (seen .of-sum) (block .n) (rowOf mean q) (rowOf mean r) (d .added));
         clear = λ ech. clear-map (seen .through) S T m (block .n) (mask (r .cells)) (d .clear (echelon-back (seen .through) S T m (block .n) ech));

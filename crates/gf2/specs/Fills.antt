@@ -2,7 +2,7 @@
 use mathlib.Core.Path.{_≡_}
 use mathlib.Core.Bool.{Bool, true, false}
 use mathlib.Core.List.{List}
-use Prim.Native.Nat.{ℕ, _≤_}
+use Prim.Native.Nat.{ℕ, _≤_, _<_}
 use lib.Bits.{bitXor}
 use lib.ListN.{length, getD}
 use Rattle.span.specs.Echelon.{State, Echelon}
@@ -27,6 +27,10 @@ abbrev pub Substitution : {K : Type 0} → (K → Full) → Marks fulls → List
 Substitution view marks records block c r =
     (f : ℕ → ℕ) → bitXor (r .answer .0) (xorOver f (block .n) (mask (r .cells))) ≡ substituted (block .n) (wordsOf view marks records block) f c
 
+-- The same of a cell that is there.
+abbrev pub SubstitutionIn : {K : Type 0} → (K → Full) → Marks fulls → List (Record K) → Block → ℕ → Record Word → Type 0
+SubstitutionIn view marks records block c r = There records block × (c < block .n) × Substitution view marks records block c r
+
 -- The block's rows are not all there, or c is not one of its cells.
 abbrev pub NoCell : {K : Type 0} → List (Record K) → Block → ℕ → Type 0
 NoCell records block c = There records block → block .n ≤ c
@@ -40,5 +44,6 @@ pub record Filling {K : Type 0} (view : K → Full) (marks : Marks fulls) (recor
 pub record FillingIn {K : Type 0} (view : K → Full) (marks : Marks fulls) (records : List (Record K)) (block : Block) (words : List ℕ) (r : Bool) (words′ : List ℕ)
     : Type 0 where
   pub taken : There records block → length words ≡ block .n → r ≡ true
+  pub only : r ≡ true → There records block × (length words ≡ block .n)
   pub filled : r ≡ true → Filling view marks records block words′
   pub kept : r ≡ false → words′ ≡ words

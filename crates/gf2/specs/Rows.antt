@@ -30,8 +30,10 @@ There records block = block .start + block .n ≤ length records
 abbrev pub Missing : {K : Type 0} → List (Record K) → Block → Type 0
 Missing records block = length records < block .start + block .n
 
--- r is q reduced: q with one set of bound rows added to it. Where the rows are in echelon form, it holds no bound cell.
+-- The block's rows are all there, and r is q reduced: q with one set of bound rows added to it.
+-- Where the rows are in echelon form, r holds no bound cell.
 pub record Reduction {K A : Type 0} (mean : K → A) (kind : Kind A) (records : List (Record K)) (block : Block) (q r : Record K) : Type 0 where
+  pub there : There records block
   pub added : Added kind (block .n) (blockOf mean kind records block) (rowOf mean q) (rowOf mean r)
   pub clear : Echelon (block .n) (blockOf mean kind records block) → Clear (block .n) (blockOf mean kind records block) (mask (r .cells))
 

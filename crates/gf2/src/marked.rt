@@ -1,8 +1,10 @@
 // Answer kinds that have a word, and in which the slot of an entry can be marked.
+ghost use mathlib.Core.Bool.{cond};
 ghost use mathlib.Core.List.{List};
 ghost use mathlib.Core.Path.{_≡_};
-ghost use Prim.Native.Nat.{ℕ, _^_, _<_};
+ghost use Prim.Native.Nat.{ℕ, _^_};
 ghost use lib.Bits.{bitXor};
+ghost use lib.Dec.{ltb};
 ghost use Rattle.span.specs.Echelon.{Row as SpanRow};
 ghost use Rattle.span.specs.Marked.{Full, fulls, Marks, fullMarks, leanMarks, Blames, NoSlots};
 ghost use Rattle.span.specs.Slots.{ConflictSet};
@@ -36,9 +38,9 @@ pub trait Marked: Answer {
     fn word(self) -> u64
         ensures { λ r. ⌜ r ≡ marks .word (view self) ⌝ };
 
-    // The answer with the mark of one slot added.
+    // The answer with the mark of one slot added; a slot past the width of a set has no mark.
     fn marked(self, slot: usize) -> Self
-        ensures { λ r. ⌜ (slot < width → view r ≡ fulls .sum (marks .mark slot) (view self)) ⌝ };
+        ensures { λ r. ⌜ view r ≡ cond (ltb slot width) (fulls .sum (marks .mark slot) (view self)) (view self) ⌝ };
 
     fn slots(self) -> CellSet
         ensures { λ r. ⌜ mask r ≡ marks .slots (view self) ⌝ };
@@ -71,7 +73,7 @@ pub impl Marked for Word as WordMarked {
 
 // The set with the mark of the slot added.
 fn marked_in(slots: CellSet, slot: usize) -> CellSet
-    ensures { λ r. ⌜ (slot < width → mask r ≡ bitXor (2 ^ slot) (mask slots)) ⌝ }
+    ensures { λ r. ⌜ mask r ≡ cond (ltb slot width) (bitXor (2 ^ slot) (mask slots)) (mask slots) ⌝ }
 {
     slots.toggled(slot)
 }

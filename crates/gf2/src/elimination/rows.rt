@@ -5,7 +5,7 @@ ghost use Prim.Native.Nat.{_+_, _≤_, _<_};
 ghost use denote.Ref.{name};
 ghost use lib.ListN.{length};
 ghost use Rattle.std.specs.Options.{Cases as BySome};
-ghost use Rattle.gf2.specs.Fills.{NoCell, Substitution, FillingIn};
+ghost use Rattle.gf2.specs.Fills.{NoCell, SubstitutionIn, FillingIn};
 ghost use Rattle.gf2.specs.Masks.{mask};
 ghost use Rattle.gf2.specs.Rows.{Missing, Reduction, BindingIn};
 use crate::elimination;
@@ -66,7 +66,7 @@ impl<'a, K: Answer> Rows<'a, K> {
 impl<'a, K: Marked> Rows<'a, K> {
     // What the word of a cell is made of: the other cells of its row, and its row's word; nothing where the cell is free.
     pub fn substitute(&self, block: Block, cell: usize) -> Option<Row<Word>>
-        ensures { λ r. ⌜ BySome r (NoCell (now (now (self .entry) .records)) block cell) (Substitution (K·Marked .view) (K·Marked .marks) (now (now (self .entry) .records)) block cell) ⌝ }
+        ensures { λ r. ⌜ BySome r (NoCell (now (now (self .entry) .records)) block cell) (SubstitutionIn (K·Marked .view) (K·Marked .marks) (now (now (self .entry) .records)) block cell) ⌝ }
     {
         if is_there(self.len(), block) && cell < block.n {
             Some(elimination::substitute(self.records, block, cell))
