@@ -1,5 +1,4 @@
 // The lines that the program prints, each promised byte for byte.
-mod hex;
 mod lines;
 mod text;
 
