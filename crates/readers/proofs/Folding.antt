@@ -3,7 +3,6 @@ use mathlib.Core.Path.{_≡_, refl, sym, ap, _∙_}
 use mathlib.Core.Bool.{Bool, true, false, cond}
 use mathlib.Core.List.{List, [], _∷_, _++_, append-assoc}
 use Prim.Native.Nat.{ℕ, _+_, _≤_, _<_}
-use native.Mathlib.Nat.{zero-add}
 use native.Mathlib.Omega.{arith}
 use lib.ListN.{length, getD, set, take, drop, length-set}
 use Rattle.std.proofs.shelf.Lists.{append-nil, drop-all, drop-more, take-more-set}
@@ -15,9 +14,6 @@ pub record Folding (key out : List ℕ) (i n : ℕ) : Type 0 where
   pub long : length out ≡ 64
   pub clean : unprintableAt key ≡ i + unprintableAt (drop i key)
   pub done : take n out ++ folded (drop i key) ≡ folded key
-
-pub folding-none : (key out : List ℕ) → length out ≡ 64 → Folding key out 0 0
-folding-none key out l = record { within = omega arith; behind = omega arith; long = l; clean = sym (zero-add (unprintableAt key)); done = refl }
 
 module _ (key out : List ℕ) (i n : ℕ) (f : Folding key out i n) where
   pub folding-all : length key ≤ i → (unprintableAt key ≡ length key) × (take n out ≡ folded key)
