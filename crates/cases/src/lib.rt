@@ -1,5 +1,7 @@
 // Examples that are run: published vectors, the limits of each number from both sides, damaged images, and drafts.
 // Expected values come from publications or from an independent calculation.
+#![tactic(auto)]
+
 mod drafts;
 mod elimination;
 mod images;

@@ -1,4 +1,6 @@
 // A draft: entries collected in lent rows, until their table is written.
+#![tactic(auto)]
+
 mod draft;
 mod entry;
 mod tally;

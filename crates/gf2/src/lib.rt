@@ -1,4 +1,6 @@
 // Elimination over GF(2). It knows nothing of keys: below it are sets of cells and the rows over them.
+#![tactic(auto)]
+
 mod elimination;
 pub mod kinds;
 pub mod marked;

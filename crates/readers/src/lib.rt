@@ -1,4 +1,6 @@
 // Readers: from a key to a clause.
+#![tactic(auto)]
+
 pub mod clause;
 pub mod draws;
 pub mod fold;

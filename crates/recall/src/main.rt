@@ -1,4 +1,6 @@
 // The roof's half of a recall: opens a table's image, asks it about serials, and prints each reply.
+#![tactic(auto)]
+
 use readers::split::Split;
 
 // The published example: cells 25, 0, 26 and 9, with three serials on the list.

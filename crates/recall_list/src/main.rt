@@ -1,4 +1,6 @@
 // A recall from end to end: the office enters a list and writes its table, and the roof asks the table about serials.
+#![tactic(auto)]
+
 use gf2::kinds::{Pair, Word};
 use gf2::row::Row;
 use gf2::sets::CellSet;

@@ -1,4 +1,6 @@
 // The lines that the program prints, each promised byte for byte.
+#![tactic(auto)]
+
 mod lines;
 mod text;
 mod works;

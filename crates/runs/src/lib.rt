@@ -1,4 +1,6 @@
 // Whole runs on a draft, and the law over them.
+#![tactic(auto)]
+
 mod run;
 mod works;
 

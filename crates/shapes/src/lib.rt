@@ -1,3 +1,5 @@
 // Shapes and faults: what every layer above the elimination shares.
+#![tactic(auto)]
+
 pub mod fault;
 pub mod shape;

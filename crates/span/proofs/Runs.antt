@@ -1,5 +1,5 @@
 -- What is held has slots and a state, over any kind with marks.
-use mathlib.Core.Path.{◌≡◌, refl, subst}
+use mathlib.Core.Path.{◌≡◌, refl, sym, subst}
 use mathlib.Core.Logic.{◌⊎◌, inl, inr}
 use mathlib.Core.Bool.{false}
 use mathlib.Core.List.{List, [], ◌∷◌}
@@ -21,6 +21,31 @@ use Rattle.span.proofs.Once.{in_slots_one}
 use Rattle.span.proofs.Held.{held_solvable, solvable_none, held_fits}
 use Rattle.span.proofs.Slots.{conflict_one}
 use Rattle.span.proofs.Marked.{open_stands, decides, full_blames}
+
+-- a run holds what is held after its enterings, and its slots are that block's
+pub run_parts : (w n : ℕ) (E H L : List (Row ℕ)) → Run w n E H L → Held w n E H × InSlots H L
+run_parts w n [] H L (e, f) = (e, subst (λ (F : List (Row ℕ)). InSlots F L) (sym e) f)
+run_parts w n (x ∷ E) H L (G, M, run, inl (s, q, last)) =
+    let r : Held w n E G × InSlots G M = run_parts w n E G M run in
+    ((G, r.0, inl (s, q)), subst (λ (F : List (Row ℕ)). InSlots F L) (sym q) (M, r.1, last))
+run_parts w n (x ∷ E) H L (G, M, run, inr (s, q, p)) =
+    let r : Held w n E G × InSlots G M = run_parts w n E G M run in (
+      (G, r.0, inr (s, q)),
+      subst (λ (F : List (Row ℕ)). InSlots F L) (sym q) (subst (λ (N : List (Row ℕ)). InSlots G N) (sym p) r.1),
+    )
+
+-- the converse
+pub run_of_parts : (w n : ℕ) (E H L : List (Row ℕ)) → Held w n E H → InSlots H L → Run w n E H L
+run_of_parts w n [] H L held slots = (held, subst (λ (F : List (Row ℕ)). InSlots F L) held slots)
+run_of_parts w n (x ∷ E) H L (G, held, inl (s, q)) slots =
+    let own : InSlots (x ∷ G) L = subst (λ (F : List (Row ℕ)). InSlots F L) q slots in
+    (G, own.0, run_of_parts w n E G own.0 held own.1, inl (s, q, own.2))
+run_of_parts w n (x ∷ E) H L (G, held, inr (s, q)) slots =
+    (G, L, run_of_parts w n E G L held (subst (λ (F : List (Row ℕ)). InSlots F L) q slots), inr (s, q, refl))
+
+-- what a run holds is what is held after its enterings
+pub run_held : (w n : ℕ) (E H L : List (Row ℕ)) → Run w n E H L → Held w n E H
+run_held w n E H L run = (run_parts w n E H L run).0
 
 module _ {A : Type 0} {K : Kind A} (M : Marks K) (w n : ℕ) where
   -- an entry's reduction to a word alone
@@ -84,9 +109,10 @@ module _ {A : Type 0} {K : Kind A} (M : Marks K) (w n : ℕ) where
 
   -- each run has a state
   pub run_state : (E H L : List (Row ℕ)) → FitsAll w n E → Run w n E H L → (S : State A) × StandsFor M n H L S
-  run_state E H L fits (held, slots) =
-      let r : Standing H = held_standing E H fits held in
-      subst (λ (N : List (Row ℕ)). (S : State A) × StandsFor M n H N S) (in_slots_one H r.0 L r.1 slots) r.2
+  run_state E H L fits run =
+      let parts : Held w n E H × InSlots H L = run_parts w n E H L run in
+      let r : Standing H = held_standing E H fits parts.0 in
+      subst (λ (N : List (Row ℕ)). (S : State A) × StandsFor M n H N S) (in_slots_one H r.0 L r.1 parts.1) r.2
 
 module _ (w n : ℕ) where
   -- what is held has slots
@@ -99,7 +125,7 @@ module _ (w n : ℕ) where
   run_conflict E H L fits run e fit none = go (run_state full_marks w n E H L fits run)
     where
       go : (S : State Full) × StandsFor full_marks n H L S → (t : ℕ) × ConflictSet L e t × ((u : ℕ) → ConflictSet L e u → t ≡ u)
-      go (S, stands) = by (verdict full_marks w n H L (held_fits w n E H fits run.0) S stands e fit)
+      go (S, stands) = by (verdict full_marks w n H L (held_fits w n E H fits (run_held w n E H L run)) S stands e fit)
         where
           by : Verdict full_marks w n S H L e → (t : ℕ) × ConflictSet L e t × ((u : ℕ) → ConflictSet L e u → t ≡ u)
           by (inl (s, b, f)) = absurd (none s)

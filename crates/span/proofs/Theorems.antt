@@ -16,7 +16,7 @@ use Rattle.span.proofs.Bound.{bound_by, by_bound}
 use Rattle.span.proofs.Solve.{rows_entries, entries_rows, free_by, by_free, table_fits, table_is, table_only, conflict}
 use Rattle.span.proofs.Held.{Good, good, held_fits, held_exists}
 use Rattle.span.proofs.Slots.{chosen_one, comb_slots}
-use Rattle.span.proofs.Runs.{slots_exist}
+use Rattle.span.proofs.Runs.{slots_exist, run_parts, run_of_parts}
 use Rattle.span.proofs.Once.{held_one, in_slots_one}
 use Rattle.span.proofs.Blocks.{held_of, fits_of, table_in_exists, table_in_same}
 
@@ -71,10 +71,11 @@ run_is_one w n E fits =
     let s : (L : List (Row ℕ)) × InSlots h.0 L = slots_exist w n E h.0 fits h.1 in (
       h.0,
       s.0,
-      (h.1, s.1),
+      run_of_parts w n E h.0 s.0 h.1 s.1,
       λ H L run.
-          let same : h.0 ≡ H = held_one (Solvable w n) E h.0 H h.1 run.0 in
-          (same, in_slots_one h.0 s.0 L s.1 (subst (λ (G : List (Row ℕ)). InSlots G L) (sym same) run.1)),
+          let parts : Held w n E H × InSlots H L = run_parts w n E H L run in
+          let same : h.0 ≡ H = held_one (Solvable w n) E h.0 H h.1 parts.0 in
+          (same, in_slots_one h.0 s.0 L s.1 (subst (λ (G : List (Row ℕ)). InSlots G L) (sym same) parts.1)),
     )
 
 -- what is held in all blocks
@@ -86,7 +87,11 @@ pub blocks_have_runs : BlocksHaveRuns
 blocks_have_runs w n E H fits held b =
     let own : Held w n (of b E) (of b H) = held_of w n E H held b in
     let r : (L : List (Row ℕ)) × InSlots (of b H) L = slots_exist w n (of b E) (of b H) (fits_of w n E fits b) own in
-    (r.0, (own, r.1), λ M other. in_slots_one (of b H) r.0 M r.1 other.1)
+    (
+      r.0,
+      run_of_parts w n (of b E) (of b H) r.0 own r.1,
+      λ M other. in_slots_one (of b H) r.0 M r.1 (run_parts w n (of b E) (of b H) M other).1,
+    )
 
 -- the table of all blocks
 pub blocks_have_table : BlocksHaveTable

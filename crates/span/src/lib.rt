@@ -1,4 +1,6 @@
 // The mathematics under the elimination, with no code: each function's contract is one theorem.
+#![tactic(auto)]
+
 ghost use Rattle.span.specs.Kinds.{Kind};
 ghost use Rattle.span.specs.Marked.{Marks};
 ghost use Rattle.span.specs.Theorems.{XorIsDifference, XorOverIsLinear, HeldIsAnswered, CombinationsFollow, ReductionIsOne, StepStands, BoundIsBound, ConflictIsConflict, TableIsOne, SubstitutionGoesDown, SubstitutionSolves, RowsGiveTable, StandingIsSolvable, HeldHasTable, BoundInAnyOrder, SameHeldSameTable, RunIsOne, RunIsHeld, OpenStands, Decides, WordsStand, SameRowsStand, SlotsCountBound, RunHasState, NamesSlots, ConflictNamesSlots, SlotsAreOne, BlocksAreApart, OwnBlockDecides, HeldIsOne, BlockHoldsItsOwn, BlocksHaveRuns, BlocksInAnyOrder, BlocksHaveTable, BlocksSameTable, AllHeldInAnyOrder};

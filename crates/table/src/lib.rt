@@ -1,4 +1,6 @@
 // Tables as images: opening one, and asking it about a key.
+#![tactic(auto)]
+
 mod cells;
 mod laws;
 mod reply;
