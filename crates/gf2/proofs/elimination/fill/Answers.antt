@@ -12,7 +12,7 @@ loop-cell-preserved g c =
     let row = c.substitute-row.result in
     let up : c.loop-cell.cell ≡ suc (c.loop-cell.cell - 1) = omega arith in
     filled_more (c.loop-cell.cell - 1) n S words (subst (λ (k : ℕ). FilledFrom k n S words) up c.loop-cell.invariant) (omega arith)
-    (c.loop-cell.auto.words ∙ c.requires.long) row.answer.0 (mask row.cells) c.xor_over.result c.substitute-row.ensures c.xor-over.ensures
+    (c.loop-cell.auto.words ∙ c.requires.long) row.answer.0 (mask row.cells) c.xor_over.result c.substitute-row.ensures c.xor_over.ensures
 
 pub returns : goal.returns
 returns g c =

@@ -8,6 +8,6 @@ pub returns : goal.returns
 returns c =
     let key = c.args.a ∷ c.args.b ∷ c.args.c ∷ c.args.d ∷ [] in
     let d = c.args.shape.now.dims in
-    c.clause-of.ensures
-    ∙ ap (λ row. clause_of d (λ i. get_or row i 0)) c.digit-row.ensures
+    c.clause_of.ensures
+    ∙ ap (λ row. clause_of d (λ i. get_or row i 0)) c.digit_row.ensures
     ∙ clause_of_same d _ (digit key) (λ i h. zeros_after (digits key) i)

@@ -10,6 +10,6 @@ returns-in-empty t c = sym (ap (fnv_from c.args.basis) (nil_from_length c.args.k
 pub returns-in-len1-up : goal.returns-in-len1-up
 returns-in-len1-up t c =
     let key = c.args.key.now in
-    c.hash-byte.ensures
+    c.hash_byte.ensures
     ∙ ap (λ h. fnv_step h (get_or key (length key - 1) 0)) c.hash.ensures
     ∙ fnv_from_last c.args.basis key (search rules)

@@ -8,4 +8,4 @@ pub returns : goal.returns
 returns c =
     let shape = c.args.shape.now in
     let few = (shape_limits shape).k_high in
-    c.clause-of.ensures ∙ clause_of_same shape.dims _ (word c.args.seed) (λ i h. c.first-words-words.ensures i (omega arith))
+    c.clause_of.ensures ∙ clause_of_same shape.dims _ (word c.args.seed) (λ i h. c.first_words-words.ensures i (omega arith))

@@ -12,6 +12,6 @@ returns c =
     let key = c.args.key.now in
     let long : length key ≡ 4 = search rules in
     let admitted : split_admits d ≡ true = sym c.admits.ensures ∙ c.if-not-admits.false in
-    ap Ok (c.clause-of-digits.ensures ∙ ap (λ bytes. clause_of d (digit bytes)) (sym (four key long)))
+    ap Ok (c.clause_of_digits.ensures ∙ ap (λ bytes. clause_of d (digit bytes)) (sym (four key long)))
     ∙ sym (ap (λ b. cond b (Ok (clause_of d (digit key))) (Err (refusal 1 (length key) 0))) (eq-eqb (length key) 4 long))
     ∙ sym (reply_given split_meaning d key admitted (omega arith))
