@@ -14,11 +14,11 @@ room v i h l =
 next : (v b i : ℕ) → b < 256 → v < 256 ^ i → v * 256 + b < 256 ^ (i + 1)
 next v b i h l = rw add-one (omega (arith, pow-suc 256 i))
 
-pub overflow-mul-v : goal.overflow-mul-v
-overflow-mul-v c = omega (arith, room c.loop-byte.v c.loop-byte.byte-index (omega arith) c.loop-byte.invariant.1)
+pub overflow_mul-v : goal.overflow_mul-v
+overflow_mul-v c = omega (arith, room c.loop-byte.v c.loop-byte.byte-index (omega arith) c.loop-byte.invariant.1)
 
-pub overflow-add-v : goal.overflow-add-v
-overflow-add-v c = omega (arith, room c.loop-byte.v c.loop-byte.byte-index (omega arith) c.loop-byte.invariant.1)
+pub overflow_add-v : goal.overflow_add-v
+overflow_add-v c = omega (arith, room c.loop-byte.v c.loop-byte.byte-index (omega arith) c.loop-byte.invariant.1)
 
 pub loop-byte-preserved : goal.loop-byte-preserved
 loop-byte-preserved c = (

@@ -12,7 +12,7 @@ use Rattle.table.proofs.cells.xor_records.Goals.{In-Some}
 pub loop-c-init : goal.loop-c-init
 loop-c-init c =
     let f = λ (i : ℕ). get_or (words_in c.args.width c.args.block.now) i 0 in
-    let start : enumerate_count c.into-iter-c-iterator.result ≡ 0 = search rules in (
+    let start : enumerate_count c.into_iter-c-iterator.result ≡ 0 = search rules in (
       search rules,
       search rules,
       left_none _ _ _ _ _ (search rules) start (search rules),

@@ -2,8 +2,8 @@ use Rattle.std.proofs.Common.{◌≡◌, ◌+◌, ◌*◌, ◌≤◌, length, ap
 use Rattle.table.proofs.Stores.{cell_within, word_more, word_all}
 use Rattle.table.proofs.store.put_each.Goals as goal
 
-pub slice-bounds-put-word-end : goal.slice-bounds-put-word-end
-slice-bounds-put-word-end c =
+pub slice_bounds-put_word-end : goal.slice_bounds-put_word-end
+slice_bounds-put_word-end c =
     let within : (c.loop-i.i + 1) * c.args.width ≤ length c.loop-i.cells =
     cell_within _ _ _ _ c.loop-i-test.true (c.loop-i.auto.cells ∙ c.requires) in
     search rules
@@ -11,7 +11,7 @@ slice-bounds-put-word-end c =
 pub loop-i-preserved : goal.loop-i-preserved
 loop-i-preserved c =
     let within = cell_within _ _ _ _ c.loop-i-test.true (c.loop-i.auto.cells ∙ c.requires) in
-    word_more _ _ _ _ _ c.loop-i-test.true within c.put-word.ensures c.loop-i.invariant
+    word_more _ _ _ _ _ c.loop-i-test.true within c.put_word.ensures c.loop-i.invariant
 
 pub returns : goal.returns
 returns c =
