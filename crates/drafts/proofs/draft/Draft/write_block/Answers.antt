@@ -5,4 +5,4 @@ use Rattle.drafts.proofs.draft.Draft.write_block.Goals as goal
 pub returns : goal.returns
 returns g c =
     block_words g.K.Marked.view g.K.Marked.marks c.args.self.now c.args.at c.block.result c.block.ensures c.requires.rows c.requires.at
-    _ _ _ c.requires.block c.fill.auto.words c.fill.ensures _ _ _ c.requires.size c.put-words.ensures
+    _ _ _ c.requires.block c.fill.auto.words c.fill.ensures _ _ _ c.requires.size c.put_words.ensures

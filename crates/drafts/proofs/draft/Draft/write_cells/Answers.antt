@@ -4,11 +4,11 @@ use Rattle.drafts.specs.Standing.{dims_of}
 use Rattle.drafts.proofs.Writing.{next_part, part_within, words_more, words_all}
 use Rattle.drafts.proofs.draft.Draft.write_cells.Goals as goal
 
-pub slice-bounds-write-block-end : goal.slice-bounds-write-block-end
-slice-bounds-write-block-end g c =
+pub slice_bounds-write_block-end : goal.slice_bounds-write_block-end
+slice_bounds-write_block-end g c =
     let d = c.args.self.now in
-    let size : length c.args.words.now * c.cell-width.result ≡ (dims_of d).n * width (dims_of d) =
-    ap (λ k. k * c.cell-width.result) c.requires.block ∙ ap (λ k. (dims_of d).n * k) c.cell-width.ensures in
+    let size : length c.args.words.now * c.cell_width.result ≡ (dims_of d).n * width (dims_of d) =
+    ap (λ k. k * c.cell_width.result) c.requires.block ∙ ap (λ k. (dims_of d).n * k) c.cell_width.ensures in
     let within = part_within g.K.Marked.view g.K.Marked.marks d _ size c.loop-b.b
     (omega (arith, c.loop-b-test.true, ap (λ e. e.b) c.dims-b-end.ensures.same)) _ (c.loop-b.auto.cells ∙ c.requires.size) in
     search rules
@@ -16,17 +16,17 @@ slice-bounds-write-block-end g c =
 pub loop-b-preserved : goal.loop-b-preserved
 loop-b-preserved g c =
     let d = c.args.self.now in
-    let size : length c.args.words.now * c.cell-width.result ≡ (dims_of d).n * width (dims_of d) =
-    ap (λ k. k * c.cell-width.result) c.requires.block ∙ ap (λ k. (dims_of d).n * k) c.cell-width.ensures in
+    let size : length c.args.words.now * c.cell_width.result ≡ (dims_of d).n * width (dims_of d) =
+    ap (λ k. k * c.cell_width.result) c.requires.block ∙ ap (λ k. (dims_of d).n * k) c.cell_width.ensures in
     let within = part_within g.K.Marked.view g.K.Marked.marks d _ size c.loop-b.b
     (omega (arith, c.loop-b-test.true, ap (λ e. e.b) c.dims-b-end.ensures.same)) (length c.loop-b.cells) (c.loop-b.auto.cells ∙ c.requires.size) in
-    words_more g.K.Marked.view g.K.Marked.marks d (length c.args.words.now * c.cell-width.result) size c.loop-b.b _ _
-    (omega (arith, within, next_part c.loop-b.b (length c.args.words.now * c.cell-width.result))) c.loop-b.invariant c.write-block.ensures
+    words_more g.K.Marked.view g.K.Marked.marks d (length c.args.words.now * c.cell_width.result) size c.loop-b.b _ _
+    (omega (arith, within, next_part c.loop-b.b (length c.args.words.now * c.cell_width.result))) c.loop-b.invariant c.write_block.ensures
 
 pub returns : goal.returns
 returns g c =
     let d = c.args.self.now in
-    let size : length c.args.words.now * c.cell-width.result ≡ (dims_of d).n * width (dims_of d) =
-    ap (λ k. k * c.cell-width.result) c.requires.block ∙ ap (λ k. (dims_of d).n * k) c.cell-width.ensures in
-    words_all g.K.Marked.view g.K.Marked.marks d (length c.args.words.now * c.cell-width.result) size c.loop-b.b (search rules)
+    let size : length c.args.words.now * c.cell_width.result ≡ (dims_of d).n * width (dims_of d) =
+    ap (λ k. k * c.cell_width.result) c.requires.block ∙ ap (λ k. (dims_of d).n * k) c.cell_width.ensures in
+    words_all g.K.Marked.view g.K.Marked.marks d (length c.args.words.now * c.cell_width.result) size c.loop-b.b (search rules)
     _ (c.loop-b.auto.cells ∙ c.requires.size) c.loop-b.invariant

@@ -11,9 +11,9 @@ pub returns : goal.returns
 returns g c =
     let d = c.args.self.now in
     let all = c.args.image.now in
-    let head : c.put-header.new.bytes ≡ header (dims_of d) = stored_is _ _ _ _ c.put-header.ensures (length-take-le 8 all (omega (arith, c.requires.size))) in
-    let long : length c.put-header.new.bytes ≡ 8 = ap length head in
-    let whole = put_behind 8 (length (c.put-header.new.bytes ++ drop 8 all) - 8) c.put-header.new.bytes (drop 8 all) c.write-cells.new.cells long
-    (omega (arith, length-append c.put-header.new.bytes (drop 8 all))) in
+    let head : c.put_header.new.bytes ≡ header (dims_of d) = stored_is _ _ _ _ c.put_header.ensures (length-take-le 8 all (omega (arith, c.requires.size))) in
+    let long : length c.put_header.new.bytes ≡ 8 = ap length head in
+    let whole = put_behind 8 (length (c.put_header.new.bytes ++ drop 8 all) - 8) c.put_header.new.bytes (drop 8 all) c.write_cells.new.cells long
+    (omega (arith, length-append c.put_header.new.bytes (drop 8 all))) in
     subst (ImageOf g.K.Marked.view g.K.Marked.marks d) (sym whole)
-    (image_of g.K.Marked.view g.K.Marked.marks d c.put-header.new.bytes c.write-cells.new.cells head c.write-cells.ensures)
+    (image_of g.K.Marked.view g.K.Marked.marks d c.put_header.new.bytes c.write_cells.new.cells head c.write_cells.ensures)
