@@ -7,8 +7,8 @@ use Rattle.report.proofs.lines.hex_text.Goals as goal
 
 pub loop-b-preserved : goal.loop-b-preserved
 loop-b-preserved c =
-    let high = c.in-ok-push.ensures in
-    let low = c.in-ok-push-2.ensures in
+    let high = c.in_ok-push.ensures in
+    let low = c.in_ok-push-2.ensures in
     let bytes = c.args.bytes.now in
     let i = c.loop-b.b-index in
     let text = string_bytes c.loop-b.text in

@@ -14,9 +14,9 @@ returns-in-Write g c = rw c.in-Write.is
 pub returns-in-Bound : goal.returns-in-Bound
 returns-in-Bound g c = rw c.in-Bound.is
     (asks_performs g.K.Marked.view g.K.Marked.marks g.K.Marked.blame (g.R.Reader.meaning c.args.reader.now) c.args.draft.now
-    c.in-Bound.block c.in-Bound.cell c.args.buffer.now c.is-bound.result c.is-bound.ensures)
+    c.in-Bound.block c.in-Bound.cell c.args.buffer.now c.is_bound.result c.is_bound.ensures)
 
 pub returns-in-Count : goal.returns-in-Count
 returns-in-Count g c = rw c.in-Count.is
     (counts_performs g.K.Marked.view g.K.Marked.marks g.K.Marked.blame (g.R.Reader.meaning c.args.reader.now) c.args.draft.now
-    c.in-Count.block c.args.buffer.now c.count-bound.result c.count-bound.ensures)
+    c.in-Count.block c.args.buffer.now c.count_bound.result c.count_bound.ensures)
