@@ -2,9 +2,9 @@
 // Expected values come from publications or from an independent calculation.
 #![tactic(auto)]
 
-mod drafts;
 mod elimination;
 mod images;
+mod lists;
 mod readers_told;
 mod shapes;
 mod vectors;

@@ -137,7 +137,7 @@ mod tests {
         assert!(rt; told == expected);
         let written = image(rt, &draft)?;
         assert_eq!(rt; &written[..8], &IMAGE[..8]);
-        assert_eq!(rt; &written[8..], cells);
+        assert_eq!(rt; &written[8..], &cells[..]);
         Ok(())
     }
 
@@ -236,8 +236,8 @@ mod tests {
         assert_eq!(rt; short, [0xAA; 11]);
         let mut long = [0xAA; 14];
         assert_eq!(rt; draft.write(&mut long)?, 12);
-        assert_eq!(rt; &long[..12], IMAGE);
-        assert_eq!(rt; &long[12..], [0xAA; 2]);
+        assert_eq!(rt; &long[..12], &IMAGE[..]);
+        assert_eq!(rt; &long[12..], &[0xAA; 2][..]);
         Ok(())
     }
 
