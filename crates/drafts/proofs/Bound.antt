@@ -1,5 +1,5 @@
 -- What is noted as bound, and as many slots, is what the held entries bind.
-use Rattle.std.proofs.Common.{◌≡◌, ℕ, ◌<◌, Bool, true, List, length, sym, ◌∙◌, subst}
+use Rattle.std.proofs.Common.{◌≡◌, ℕ, ◌<◌, Bool, List, sym, ◌∙◌, subst}
 use Rattle.span.specs.Sets.{has}
 use Rattle.span.specs.Held.{CountBound}
 use Rattle.span.specs.Marked.{Full, fulls, Marks}

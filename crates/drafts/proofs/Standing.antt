@@ -1,13 +1,12 @@
 -- What a draft stands for: nothing at first; and one entry more, where its own block stands for it and the others are as they were.
-use Rattle.std.proofs.Common.{◌≡◌, ℕ, ◌<◌, ◌≤◌, ◌⊎◌, List, [], ◌∷◌, length, sym, refl, ap, ◌∙◌, subst, inl, inr, arith}
+use Rattle.std.proofs.Common.{◌≡◌, ℕ, ◌<◌, ◌≤◌, List, [], ◌∷◌, length, sym, refl, ap, ◌∙◌, subst, inl, inr, arith}
 use native.Mathlib.Decide.{ℕ_discrete as dec_eq, dec_le}
 use Rattle.span.specs.Sets.{has}
 use Rattle.span.specs.Kinds.{Member}
-use Rattle.span.specs.Echelon.{Row}
 use Rattle.span.specs.Fillings.{Solvable}
 use Rattle.span.specs.Held.{Fits}
 use Rattle.span.specs.Marked.{Full, fulls, Marks}
-use Rattle.span.specs.Blocks.{Placed, of, FitsIn, SolvableIn}
+use Rattle.span.specs.Blocks.{Placed, of}
 use Rattle.span.proofs.Bits.{has_zero}
 use Rattle.span.proofs.Held.{solvable_none}
 use Rattle.span.proofs.Blocks.{of_member, of_own, of_other, fits_of, solvable_of}

@@ -1,12 +1,11 @@
 -- The words of all blocks are the table of what the draft holds.
-use Rattle.std.proofs.Common.{◌≡◌, ℕ, ◌+◌, ◌*◌, ◌/◌, ◌%◌, ◌^◌, ◌<◌, ◌≤◌, true, List, [], ◌∷◌, ◌++◌, length, get_or, take, drop, sym, refl, ap, ◌∙◌, subst, mul-le-mul_right, mod-lt, div-lt_iff_lt-mul, add-mul, one-mul, arith}
+use Rattle.std.proofs.Common.{◌≡◌, ℕ, ◌+◌, ◌*◌, ◌/◌, ◌%◌, ◌^◌, ◌<◌, ◌≤◌, List, [], ◌++◌, length, get_or, drop, sym, refl, ap, ◌∙◌, subst, mul-le-mul_right, mod-lt, div-lt_iff_lt-mul, arith}
 use native.Mathlib.Decide.{dec_le}
 use borrow.Rule.Slice.PartMut.{put_mid}
 use Rattle.std.proofs.lemmas.Nat.{div-add-mod'}
 use Rattle.std.proofs.lemmas.List.{get_or-take, get_or-drop, get_or_past, take_at, drop_at, drop_all, append-nil}
-use Rattle.span.specs.Kinds.{Member}
 use Rattle.span.specs.Echelon.{Row}
-use Rattle.span.specs.Held.{BoundBy, IsTable}
+use Rattle.span.specs.Held.{IsTable}
 use Rattle.span.specs.Marked.{Full, fulls, Marks, word_state}
 use Rattle.span.specs.Blocks.{Placed, of}
 use Rattle.span.proofs.Xors.{xor_over_same}
@@ -14,10 +13,8 @@ use Rattle.span.proofs.Blocks.{of_member, fits_of, table_of}
 use Rattle.span.proofs.Marked.{words_stand}
 use Rattle.span.proofs.Solve.{table_fits, table_is, table_only}
 use Rattle.span.proofs.Theorems.{rows_give_table}
-use Rattle.shapes.specs.declared.shape.Dims.{Dims}
 use Rattle.shapes.proofs.Limits.{shape_limits}
-use Rattle.table.specs.Sizes.{cell_count}
-use Rattle.table.specs.Images.{Content, header, image}
+use Rattle.table.specs.Images.{Content, header}
 use Rattle.table.specs.Questions.{word_at}
 use Rattle.drafts.specs.Entries.{answer_bits}
 use Rattle.drafts.specs.Standing.{dims_of, block_state, Stands}
@@ -25,7 +22,6 @@ use Rattle.drafts.specs.Writing.{TableOf}
 use Rattle.drafts.specs.Written.{ImageOf}
 use Rattle.drafts.specs.Steps.{WordsOf}
 use Rattle.drafts.specs.declared.draft.Draft.{Draft}
-use Rattle.drafts.proofs.Writing.{next_part}
 
 -- fillings that agree below n are tables alike
 same_table : (n : ℕ) (G : List (Row ℕ)) (f g : ℕ → ℕ) → ((c : ℕ) → c < n → f c ≡ g c) → IsTable n G f → IsTable n G g

@@ -1,10 +1,10 @@
 -- What is done with an entry, by what is left of it when its block's rows are reduced out of it.
-use Rattle.std.proofs.Common.{◌≡◌, ℕ, suc, ◌+◌, ◌*◌, ◌<◌, ◌≤◌, min, true, cond, ltb, ◌⊎◌, List, [], ◌∷◌, length, get_or, drop, set, Ok, Err, sym, refl, ap, ◌∙◌, subst, inl, inr, add-mul, one-mul, arith, length-set, get_or-set_other, get_or-set_same}
+use Rattle.std.proofs.Common.{◌≡◌, ℕ, suc, ◌+◌, ◌*◌, ◌<◌, min, ◌⊎◌, List, ◌∷◌, length, drop, set, Ok, Err, sym, refl, ap, ◌∙◌, subst, inl, inr, add-mul, one-mul, arith, length-set, get_or-set_other, get_or-set_same}
 use Rattle.std.proofs.lemmas.Bool.{lt-ltb, cond-true}
 use Rattle.span.specs.Sets.{Within as CellsWithin}
 use Rattle.span.specs.Lead.{Lead}
 use Rattle.span.specs.Kinds.{Kind}
-use Rattle.span.specs.Echelon.{Row, State, Added, Reduces, Put, SameBelow}
+use Rattle.span.specs.Echelon.{Row, State, Added, Reduces, Put}
 use Rattle.span.specs.Slots.{Blame}
 use Rattle.span.specs.Fillings.{Solvable}
 use Rattle.span.specs.Held.{Binds}
@@ -17,9 +17,8 @@ use Rattle.span.proofs.Same.{same_rows_stand}
 use Rattle.span.proofs.Blocks.{fits_of, own_decides}
 use Rattle.gf2.specs.Kinds.{Seen}
 use Rattle.gf2.specs.Masks.{width, mask, value}
-use Rattle.gf2.specs.Rows.{row_of, state_of, block_of, There, Reduction, BindingIn}
+use Rattle.gf2.specs.Rows.{row_of, state_of, block_of, Reduction, BindingIn}
 use Rattle.gf2.specs.declared.row.Row.{Row as Record}
-use Rattle.gf2.specs.declared.row.Block.{Block}
 use Rattle.gf2.specs.declared.sets.CellSet.{CellSet}
 use Rattle.gf2.proofs.Views.{reduction_seen, binding_seen}
 use Rattle.gf2.proofs.Frames.{others_stay}

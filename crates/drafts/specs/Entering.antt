@@ -1,6 +1,5 @@
 -- What entering does to a draft.
 use Rattle.std.specs.Prelude.{◌≡◌, ℕ, ◌+◌, ◌*◌, List, ◌∷◌, length, take, drop, Ok, Err, Result}
-use Rattle.span.specs.Echelon.{Row}
 use Rattle.span.specs.Slots.{Blame}
 use Rattle.span.specs.Marked.{Full, fulls, Marks}
 use Rattle.span.specs.Blocks.{Placed}

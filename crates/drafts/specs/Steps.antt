@@ -2,7 +2,6 @@
 use Rattle.std.specs.Prelude.{◌≡◌, ℕ, ◌+◌, ◌*◌, ◌<◌, ◌≤◌, min, cond, List, length, take, drop, Ok, Err, nat_lt, slice_set}
 use Rattle.std.specs.List.{flat_map}
 use Rattle.span.specs.Kinds.{Kind}
-use Rattle.span.specs.Echelon.{Row}
 use Rattle.span.specs.Slots.{Blame}
 use Rattle.span.specs.Held.{Fits}
 use Rattle.span.specs.Marked.{Full, fulls, Marks}

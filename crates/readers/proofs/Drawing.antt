@@ -1,11 +1,10 @@
 -- Drawn cells: one draw more, the numbers that a clause goes by, and the cells drawn an odd number of times.
-use Rattle.std.proofs.Common.{◌≡◌, ℕ, zero, suc, ◌+◌, ◌%◌, ◌^◌, ◌<◌, ◌≤◌, Bool, true, false, cond, eqb, ◌⊎◌, List, [], ◌∷◌, ◌++◌, get_or, sym, refl, ap, ◌∙◌, ap₂, inl, inr, add-one, arith}
+use Rattle.std.proofs.Common.{◌≡◌, ℕ, zero, suc, ◌+◌, ◌%◌, ◌^◌, ◌<◌, Bool, true, false, cond, eqb, List, [], ◌∷◌, ◌++◌, get_or, sym, refl, ap, ◌∙◌, ap₂, inl, inr, add-one, arith}
 use lib.Bits.{bit_xor}
 use Rattle.std.proofs.lemmas.Bool.{lt-ltb, cases_eq, eq-eqb, ne_eqb}
 use Rattle.span.specs.Sets.{is_one, has, differs}
 use Rattle.span.proofs.Bits.{has_zero, has_xor, has_pow, has_pow_other}
 use Rattle.gf2.specs.Masks.{width, toggled_in}
-use Rattle.readers.specs.Meaning.{Clause}
 use Rattle.readers.specs.Draws.{drawn, clause_of, times, OddDraws}
 use Rattle.shapes.specs.declared.shape.Dims.{Dims}
 

@@ -1,5 +1,5 @@
 -- A loop that folds a key into a buffer: after i bytes of the key, n bytes stand in the buffer.
-use Rattle.std.proofs.Common.{◌≡◌, ℕ, ◌+◌, ◌<◌, ◌≤◌, Bool, true, false, cond, List, [], ◌∷◌, ◌++◌, length, get_or, take, drop, set, sym, refl, ap, ◌∙◌, append_assoc, arith, length-set}
+use Rattle.std.proofs.Common.{◌≡◌, ℕ, ◌+◌, ◌<◌, ◌≤◌, true, false, cond, List, [], ◌∷◌, ◌++◌, length, get_or, take, drop, set, sym, ap, ◌∙◌, append_assoc, arith, length-set}
 use Rattle.std.proofs.lemmas.List.{append-nil, drop_all, drop_more, take_more_set}
 use Rattle.readers.specs.Fold.{printable, unprintable_at, dropped, capital, folded}
 

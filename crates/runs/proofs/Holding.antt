@@ -1,14 +1,12 @@
 -- What is held, one work after another.
-use Rattle.std.proofs.Common.{◌≡◌, ℕ, ◌+◌, ◌<◌, ◌⊎◌, List, [], ◌∷◌, ◌++◌, length, get_or, take, Ok, Err, Result, sym, refl, subst, inl, inr}
+use Rattle.std.proofs.Common.{◌≡◌, ℕ, ◌+◌, ◌<◌, List, [], ◌∷◌, ◌++◌, length, get_or, take, Ok, Err, Result, sym, refl, subst, inl, inr}
 use Rattle.std.proofs.lemmas.List.{take_more}
-use Rattle.span.specs.Echelon.{Row}
 use Rattle.span.specs.Slots.{Blame}
 use Rattle.span.specs.Held.{HeldBy}
 use Rattle.span.specs.Blocks.{Placed, HeldIn}
 use Rattle.span.proofs.Once.{held_one}
 use Rattle.span.proofs.Held.{held_map}
 use Rattle.shapes.specs.declared.fault.Fault.{Fault}
-use Rattle.shapes.specs.declared.shape.Dims.{Dims}
 use Rattle.drafts.specs.Entries.{answer_bits, making}
 use Rattle.drafts.specs.Outcomes.{Together}
 use Rattle.runs.specs.declared.works.Outcome.{Outcome}

@@ -1,7 +1,6 @@
 -- What one work does.
-use Rattle.std.proofs.Common.{◌≡◌, ℕ, Bool, ◌⊎◌, List, ◌∷◌, ◌++◌, drop, Ok, Err, Result, sym, refl, ap, ◌∙◌, subst, inl, inr, MatchResult}
+use Rattle.std.proofs.Common.{◌≡◌, ℕ, Bool, List, drop, Ok, Err, Result, sym, refl, ap, ◌∙◌, subst, inl, inr, MatchResult}
 use Rattle.std.proofs.lemmas.List.{drop_at}
-use Rattle.span.specs.Echelon.{Row}
 use Rattle.span.specs.Slots.{Blame}
 use Rattle.span.specs.Marked.{Full, fulls, Marks}
 use Rattle.span.specs.Blocks.{Placed}
@@ -14,7 +13,6 @@ use Rattle.drafts.specs.Standing.{dims_of, row_count, Stands}
 use Rattle.drafts.specs.Entering.{Enters}
 use Rattle.drafts.specs.Asking.{AskedCell, AskedCount}
 use Rattle.drafts.specs.Written.{Wrote, WritesInto}
-use Rattle.drafts.specs.Writing.{writing}
 use Rattle.drafts.specs.declared.draft.Draft.{Draft}
 use Rattle.runs.specs.Lending.{RestKept}
 use Rattle.runs.specs.Runs.{enters, writes, asks, counts, Entering, entries, AnswersEntering}

@@ -2,7 +2,6 @@
 use Rattle.std.proofs.Common.{◌≡◌, ℕ, ◌+◌, ◌<◌, ◌≤◌, List, [], length, get_or, take, set, Ok, Result, sym, subst, subst₂, arith}
 use native.Mathlib.Decide.{ℕ_discrete as dec_eq}
 use Rattle.std.proofs.lemmas.List.{take_all, get_or-set_same, get_or-set_other}
-use Rattle.span.specs.Echelon.{Row}
 use Rattle.span.specs.Slots.{Blame}
 use Rattle.span.specs.Blocks.{Placed}
 use Rattle.shapes.specs.Limits.{InLimits}

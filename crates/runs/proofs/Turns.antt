@@ -1,17 +1,15 @@
 -- A run, one work after another, and the writing that closes it.
-use Rattle.std.proofs.Common.{◌≡◌, ℕ, ◌+◌, ◌<◌, ◌≤◌, List, ◌++◌, map, length, get_or, take, drop, set, Ok, Err, Result, sym, refl, ap, ◌∙◌, subst, MatchResult}
+use Rattle.std.proofs.Common.{◌≡◌, ℕ, ◌+◌, ◌<◌, ◌≤◌, List, length, get_or, take, drop, set, Ok, Err, Result, sym, ap, ◌∙◌, subst, MatchResult}
 use Rattle.std.proofs.lemmas.List.{take_at}
-use Rattle.span.specs.Echelon.{Row}
 use Rattle.span.specs.Slots.{Blame}
 use Rattle.span.specs.Marked.{Full, fulls, Marks}
-use Rattle.span.specs.Blocks.{Placed}
 use Rattle.readers.specs.Meaning.{Meaning}
 use Rattle.shapes.specs.declared.fault.Fault.{Fault}
 use Rattle.shapes.specs.declared.shape.Shape.{Shape}
 use Rattle.shapes.proofs.Limits.{shape_limits}
 use Rattle.table.specs.Images.{Content, image}
 use Rattle.drafts.specs.Standing.{dims_of, row_count, Stands}
-use Rattle.drafts.specs.Written.{ImageOf, Wrote, WritesInto}
+use Rattle.drafts.specs.Written.{Wrote, WritesInto}
 use Rattle.drafts.specs.Writing.{writing, TableOf}
 use Rattle.drafts.specs.declared.draft.Draft.{Draft}
 use Rattle.runs.specs.Lending.{RestKept}
@@ -20,7 +18,7 @@ use Rattle.runs.specs.Law.{Writes, Lawful}
 use Rattle.runs.specs.Steps.{Next, setting_of, SameRoom, Performs}
 use Rattle.runs.specs.declared.works.Outcome.{Outcome}
 use Rattle.runs.proofs.Performing.{rest_written}
-use Rattle.runs.proofs.Sofar.{Sofar, sofar_none, sofar_more, sofar_all, sofar_lawful}
+use Rattle.runs.proofs.Sofar.{Sofar, sofar_more, sofar_all, sofar_lawful}
 
 -- what is kept by one work and then by another
 pub rest_trans : (w : Result ℕ Fault) (a b c : List ℕ) → RestKept w a b → RestKept w b c → RestKept w a c

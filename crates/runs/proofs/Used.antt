@@ -1,9 +1,8 @@
 -- A run on the rows that its draft uses is one on all that are lent: what is answered goes by whether they are enough.
-use Rattle.std.proofs.Common.{◌≡◌, ℕ, ◌*◌, ◌<◌, ◌≤◌, Bool, true, false, cond, ltb, leb, List, [], ◌∷◌, ◌++◌, length, get_or, take, drop, Ok, Err, Result, sym, refl, ap, ◌∙◌, subst, arith}
+use Rattle.std.proofs.Common.{◌≡◌, ℕ, ◌≤◌, Bool, true, false, cond, ltb, leb, List, [], ◌∷◌, ◌++◌, length, get_or, take, drop, Ok, Err, Result, sym, refl, ap, ◌∙◌, subst, arith}
 use native.Mathlib.Nat.{one-le-mul}
 use Rattle.std.proofs.lemmas.List.{drop_at}
 use Rattle.std.proofs.lemmas.Bool.{leb-true, le-leb, lt-leb}
-use Rattle.span.specs.Echelon.{Row}
 use Rattle.span.specs.Slots.{Blame}
 use Rattle.span.specs.Held.{HeldBy}
 use Rattle.span.specs.Blocks.{Placed}
@@ -22,8 +21,8 @@ use Rattle.drafts.specs.Outcomes.{Together}
 use Rattle.drafts.specs.Questions.{Tells, SaysBound}
 use Rattle.drafts.specs.Writing.{writing}
 use Rattle.runs.specs.Lending.{used_rows, RowsKept}
-use Rattle.runs.specs.Runs.{Deed, enters, writes, asks, counts, Setting, setting, Entering, entries, entered_with, adds, passing, Held, AnswersEntering, Answers}
-use Rattle.runs.specs.Law.{Writes, Lawful}
+use Rattle.runs.specs.Runs.{Deed, enters, writes, asks, counts, setting, Entering, entries, entered_with, adds, passing, Held, AnswersEntering, Answers}
+use Rattle.runs.specs.Law.{Lawful}
 use Rattle.runs.specs.declared.works.Outcome.{Outcome}
 use Rattle.runs.specs.declared.works.Outcome.TheVariants.{Wrote}
 use Rattle.runs.proofs.Lawful.{lawful}

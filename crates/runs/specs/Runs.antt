@@ -1,6 +1,5 @@
 -- Lists of works on one draft: what is held after them, and what each answers.
 use Rattle.std.specs.Prelude.{◌≡◌, ℕ, Bool, List, [], ◌∷◌, map, Ok, Err, Result}
-use Rattle.span.specs.Echelon.{Row}
 use Rattle.span.specs.Slots.{Blame}
 use Rattle.span.specs.Held.{HeldBy}
 use Rattle.span.specs.Blocks.{Placed}

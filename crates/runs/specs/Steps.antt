@@ -1,6 +1,5 @@
 -- The steps of a run, as its parts promise them to each other.
 use Rattle.std.specs.Prelude.{◌≡◌, ℕ, ◌⊎◌, List, ◌∷◌, length, Ok, Err, Result}
-use Rattle.span.specs.Echelon.{Row}
 use Rattle.span.specs.Slots.{Blame}
 use Rattle.span.specs.Marked.{Full, fulls, Marks}
 use Rattle.span.specs.Blocks.{Placed}

@@ -86,8 +86,7 @@ held_is_one w n = held_one (SolvableIn w n)
 pub blocks_have_runs : BlocksHaveRuns
 blocks_have_runs w n E H fits held b =
     let own : Held w n (of b E) (of b H) = held_of w n E H held b in
-    let r : (L : List (Row ℕ)) × InSlots (of b H) L = slots_exist w n (of b E) (of b H) (fits_of w n E fits b) own in
-    (
+    let r : (L : List (Row ℕ)) × InSlots (of b H) L = slots_exist w n (of b E) (of b H) (fits_of w n E fits b) own in (
       r.0,
       run_of_parts w n (of b E) (of b H) r.0 own r.1,
       λ M other. in_slots_one (of b H) r.0 M r.1 (run_parts w n (of b E) (of b H) M other).1,

@@ -1,5 +1,5 @@
-use Rattle.std.proofs.Common.{◌≡◌, ◌<◌, ◌≢◌, length, get_or, ap, ◌∙◌, add-one, arith, length-set, get_or-set_other, get_or-set_same, below_more}
-use Rattle.readers.specs.Stream.{advance, mix, word}
+use Rattle.std.proofs.Common.{◌<◌, ◌≢◌, length, ap, ◌∙◌, add-one, arith, length-set, get_or-set_other, get_or-set_same, below_more}
+use Rattle.readers.specs.Stream.{advance, mix}
 use Rattle.readers.proofs.stream.first_words.Goals as goal
 
 pub loop-i-preserved : goal.loop-i-preserved

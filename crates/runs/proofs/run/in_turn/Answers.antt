@@ -1,4 +1,4 @@
-use Rattle.std.proofs.Common.{◌≡◌, ℕ, ◌<◌, ◌≤◌, List, map, length, take, drop, set, sym, refl, ap, ◌∙◌, subst, arith, rules}
+use Rattle.std.proofs.Common.{◌≡◌, ◌<◌, ◌≤◌, map, length, take, sym, refl, ap, ◌∙◌, subst, arith, rules}
 use lib.ListN.{length-map}
 use Rattle.std.proofs.lemmas.List.{get_or-map, drop-set-lt, length-take-le}
 use Rattle.shapes.proofs.Limits.{shape_limits}

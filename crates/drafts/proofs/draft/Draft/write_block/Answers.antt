@@ -1,4 +1,3 @@
-use Rattle.std.proofs.Common.{◌≡◌, ap, ◌∙◌}
 use Rattle.drafts.proofs.Writing.{block_words}
 use Rattle.drafts.proofs.draft.Draft.write_block.Goals as goal
 

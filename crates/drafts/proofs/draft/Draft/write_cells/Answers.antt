@@ -1,4 +1,4 @@
-use Rattle.std.proofs.Common.{◌≡◌, ◌*◌, ◌<◌, length, sym, ap, ◌∙◌, arith, rules}
+use Rattle.std.proofs.Common.{◌≡◌, ◌*◌, length, ap, ◌∙◌, arith, rules}
 use Rattle.table.specs.Sizes.{width}
 use Rattle.drafts.specs.Standing.{dims_of}
 use Rattle.drafts.proofs.Writing.{next_part, part_within, words_more, words_all}
