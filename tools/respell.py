@@ -13,6 +13,7 @@ import sys
 
 # Outside a comment: a name is what stands between spaces and these.
 STOP = r"\s(){}\[\];,.«»\"⌜⌝"
+LIBRARY = r"Rattle\.(std|core|std_\w+)\b|mathlib\.|Prim\.|lib\.|native\.|borrow\."
 NAME = re.compile(rf"[^{STOP}]+")
 DECL = re.compile(r"^\s*((?:abbrev |unfoldable |pub )*)(record |data )?([^\s(){};,.:]+)((?:\s*[({].*?)?)\s*:\s(.*)$")
 
@@ -76,6 +77,12 @@ def declared(root):
             result = whole.rsplit("→", 1)[-1].rsplit(":", 1)[-1] if "→" in whole else whole.rsplit(":", 1)[-1]
             is_type = bool(kind) or bool(re.match(r"^\s*Type [01]\s*(where)?\s*$", result))
             found[name] = found.get(name, False) or is_type
+    # Names that an import gives to what is ours.
+    for path in all_files(root):
+        for m in re.finditer(r"^(?:ghost )?use (Rattle\.[^\s{;]+)\.\{([^}]*)\}", open(path, encoding="utf-8").read(), re.M):
+            if not re.match(LIBRARY, m.group(1)):
+                for alias in re.findall(r" as ([^\s,]+)", m.group(2)):
+                    found.setdefault(alias, alias[0].isupper())
     return found
 
 
@@ -93,7 +100,7 @@ def imported(text):
     """Names that a file takes from the library."""
     names = set()
     for m in re.finditer(r"^\s*(?:ghost )?use ([^\s{;]+)\.\{([^}]*)\}", text, re.M):
-        if not re.match(r"Rattle\.(?!std|core)", m.group(1)):
+        if re.match(LIBRARY, m.group(1)):
             names.update(w.strip().split(" as ")[-1].strip() for w in m.group(2).split(","))
     return names
 

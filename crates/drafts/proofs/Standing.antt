@@ -10,7 +10,7 @@ use Rattle.span.specs.Blocks.{Placed, of}
 use Rattle.span.proofs.Bits.{has_zero}
 use Rattle.span.proofs.Held.{solvable_none}
 use Rattle.span.proofs.Blocks.{of_member, of_own, of_other, fits_of, solvable_of}
-use Rattle.span.proofs.Marked.{open_stands as none-stand, words_stand}
+use Rattle.span.proofs.Marked.{open_stands as none_stand, words_stand}
 use Rattle.span.proofs.Solve.{stands_solvable}
 use Rattle.shapes.specs.Limits.{most_blocks}
 use Rattle.shapes.proofs.Limits.{shape_limits}
@@ -30,7 +30,7 @@ module _ {K : Type 0} (view : K → Full) (marks : Marks fulls) where
         record {
           in_slots = [];
           are = refl;
-          stands = none-stand marks (dims_of d).n (block_state view d b) (λ c _. ap (λ m. has m c) (blank.none b few).1 ∙ has_zero c);
+          stands = none_stand marks (dims_of d).n (block_state view d b) (λ c _. ap (λ m. has m c) (blank.none b few).1 ∙ has_zero c);
           count = (blank.none b few).0;
         };
     notes = blank.lengths;

@@ -13,7 +13,7 @@ use Rattle.gf2.specs.declared.row.Row.{Row as Record}
 use Rattle.gf2.specs.declared.sets.CellSet.{CellSet}
 use Rattle.gf2.specs.declared.elimination.rows.Rows.{Rows}
 use Rattle.shapes.specs.declared.fault.Fault.TheVariants as fault
-use Rattle.table.specs.Sizes.{width as cellWidth, cell_count}
+use Rattle.table.specs.Sizes.{width as cell_width, cell_count}
 use Rattle.table.specs.Images.{bytes_of}
 use Rattle.drafts.specs.Entries.{answer_bits}
 use Rattle.drafts.specs.Outcomes.{dependent}
@@ -71,12 +71,12 @@ Judges mean kind view marks blame d x (Conflict slots) = Holds view marks blame 
 pub record WordsOf {K : Type 0} (view : K → Full) (marks : Marks fulls) (d : Draft K) (m : ℕ) (bytes : List ℕ) : Type 0 where
   pub words : List ℕ
   pub count : length words ≡ m * (dims_of d).n
-  pub are : bytes ≡ flat_map (bytes_of (cellWidth (dims_of d))) words
+  pub are : bytes ≡ flat_map (bytes_of (cell_width (dims_of d))) words
   pub fill : (b : ℕ) → b < m → Filling view marks (records_of d) (block_at d b) (take (dims_of d).n (drop (b * (dims_of d).n) words))
 
 -- The words of block b, and their bytes.
 pub record BlockWords {K : Type 0} (view : K → Full) (marks : Marks fulls) (d : Draft K) (b : ℕ) (bytes : List ℕ) : Type 0 where
   pub words : List ℕ
   pub count : length words ≡ (dims_of d).n
-  pub are : bytes ≡ flat_map (bytes_of (cellWidth (dims_of d))) words
+  pub are : bytes ≡ flat_map (bytes_of (cell_width (dims_of d))) words
   pub fill : Filling view marks (records_of d) (block_at d b) words

@@ -1,7 +1,7 @@
 // The fold layer: drops spaces and hyphens and turns letters into capitals, and hands the rest to the reader below.
 ghost use Rattle.std.specs.Prelude.{◌≡◌, ◌<◌, ◌≤◌, length, take, MatchResult};
 ghost use Rattle.readers.specs.Meaning.{refusal};
-ghost use Rattle.readers.specs.Fold.{unprintable_at, folded, capital as capitalOf, deeper as deeperOf, fold_meaning};
+ghost use Rattle.readers.specs.Fold.{unprintable_at, folded, capital as capital_of, deeper as deeper_of, fold_meaning};
 
 use crate::clause::Clause;
 use crate::reader::{MOST_KEY, NOT_READ, Reader};
@@ -29,7 +29,7 @@ const UNPRINTABLE: u16 = 2;
 pub struct Fold<R>(pub R);
 
 fn capital(b: u8) -> u8
-    ensures { result ≡ capitalOf b }
+    ensures { result ≡ capital_of b }
 {
     if b >= b'a' && b <= b'z' { b - CASE } else { b }
 }
@@ -58,7 +58,7 @@ fn fold_key(key: &[u8], out: &mut [u8; MOST_KEY]) -> Result<usize, Refusal>
 
 // A refusal from below, one layer further up.
 fn deeper(e: Refusal) -> Refusal
-    ensures { result ≡ deeperOf e }
+    ensures { result ≡ deeper_of e }
 {
     Refusal {
         reason: e.reason,

@@ -139,14 +139,14 @@ module _ {A : Type 0} {K : Kind A} (M : Marks K) where
 
   -- the reduction decides
   pub decides : Decides M
-  decides w n H L S fitsH stands e fit v r = record {
+  decides w n H L S fits_h stands e fit v r = record {
     slot = λ p lead.
         let pn : p < n = cell_below n H L S stands e v r fit.0 p lead in
         let u : Row A = (v.0, K.sum (M.mark (length L)) v.1) in
         let T : State A = put_at S p u in
         let into : Put S p u T = put_at_lem S p u in
         let words : Stands numbers n (e ∷ H) (word_state M T) = words_stand n (e ∷ H) (e ∷ L) T (marked_bind n H L S stands e v r fit.0 p lead T into) in (
-          stands_solvable w n (e ∷ H) (word_state M T) words (fits_cons w n e H fit fitsH),
+          stands_solvable w n (e ∷ H) (word_state M T) words (fits_cons w n e H fit fits_h),
           (
             p,
             bound_by numbers n (e ∷ H) (word_state M T) words p pn into.0,
@@ -162,7 +162,7 @@ module _ {A : Type 0} {K : Kind A} (M : Marks K) where
     dependent = λ e0 e1.
         let next : StandsFor M n (e ∷ H) L S = marked_dependent n H L S stands e v r e0 e1 in
         let words : Stands numbers n (e ∷ H) (word_state M S) = words_stand n (e ∷ H) L S next in (
-          stands_solvable w n (e ∷ H) (word_state M S) words (fits_cons w n e H fit fitsH),
+          stands_solvable w n (e ∷ H) (word_state M S) words (fits_cons w n e H fit fits_h),
           λ b. b.2 (bound_by numbers n H (word_state M S) (words_stand n H L S stands) b.0
               (by_bound numbers n (e ∷ H) (word_state M S) words b.0 b.1).0 (by_bound numbers n (e ∷ H) (word_state M S) words b.0 b.1).1),
           next,

@@ -60,13 +60,13 @@ module _ {A : Type 0} {K : Kind A} (M : Marks K) (w n : ℕ) where
       ⊎ ((¬ Solvable w n (e ∷ H)) × WordLeft S e))
 
   pub verdict : (H L : List (Row ℕ)) → FitsAll w n H → (S : State A) → StandsFor M n H L S → (e : Row ℕ) → Fits w n e → Verdict S H L e
-  verdict H L fitsH S stands e fit = go (reduces K n S stands.0.0 (bare_row M e))
+  verdict H L fits_h S stands e fit = go (reduces K n S stands.0.0 (bare_row M e))
     where
       go : (v : Row A) × Reduces K n S (bare_row M e) v → Verdict S H L e
       go (v, r) = by_cells (empty_or_lead n v.0 (reduced_within K n S stands.0.0 (bare_row M e) v fit.0 r))
         where
           d : Decided M w n H L S e v
-          d = decides M w n H L S fitsH stands e fit v r
+          d = decides M w n H L S fits_h stands e fit v r
 
           by_word : v.0 ≡ 0 → Dec (M.word v.1 ≡ 0) → Verdict S H L e
           by_word e0 (yes z) = inr (inl (d.dependent e0 z))
