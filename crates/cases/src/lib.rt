@@ -4,7 +4,7 @@
 
 mod elimination;
 mod images;
+mod limits;
 mod lists;
 mod readers_told;
-mod shapes;
 mod vectors;
