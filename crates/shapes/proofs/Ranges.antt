@@ -1,13 +1,13 @@
 -- No number is outside its limits exactly where all are within them.
-use Rattle.std.proofs.Common.{◌≡◌, ℕ, suc, ◌+◌, ◌≤◌, Bool, true, false, cond, ◌||◌, ltb, refl, ◌∙◌, arith}
+use Rattle.std.proofs.Common.{◌≡◌, ℕ, ◌+◌, ◌≤◌, Bool, true, false, cond, ◌||◌, Option, Some, None, ltb, refl, ◌∙◌, rules}
 use Rattle.std.proofs.lemmas.Bool.{ltb-false, le-ltb, or_parts, or_from, cond-false}
 use Rattle.shapes.specs.Limits.{InLimits, outside}
 use Rattle.shapes.specs.declared.shape.Dims.{Dims}
 
--- the place of a test that passes is not 0
-passes : (b : Bool) (place next : ℕ) → cond b (suc place) next ≡ 0 → (b ≡ false) × (next ≡ 0)
-passes true place next e = absurd (omega arith)
-passes false place next e = (refl, e)
+-- a test that finds nothing fails
+passes : {T : Type 0} (b : Bool) (found : T) (next : Option T) → cond b (Some found) next ≡ None → (b ≡ false) × (next ≡ None)
+passes true found next e = absurd (search rules)
+passes false found next e = (refl, e)
 
 -- x is from a to b
 between : (x a b : ℕ) → (ltb x a || ltb b x) ≡ false → (a ≤ x) × (x ≤ b)
@@ -16,13 +16,13 @@ between x a b e = let p = or_parts (ltb x a) (ltb b x) e in (ltb-false x a p.0, 
 not_outside : (x a b : ℕ) → a ≤ x → x ≤ b → (ltb x a || ltb b x) ≡ false
 not_outside x a b low high = or_from (ltb x a) (ltb b x) (le-ltb x a low) (le-ltb b x high)
 
-pub limits_from_outside : (d : Dims) → outside d ≡ 0 → InLimits d
+pub limits_from_outside : (d : Dims) → outside d ≡ None → InLimits d
 limits_from_outside d e =
-    let n = passes _ 0 _ e in
-    let k = passes _ 1 _ n.1 in
-    let s = passes _ 2 _ k.1 in
-    let r = passes _ 3 _ s.1 in
-    let b = passes _ 4 _ r.1 in
+    let n = passes _ _ _ e in
+    let k = passes _ _ _ n.1 in
+    let s = passes _ _ _ k.1 in
+    let r = passes _ _ _ s.1 in
+    let b = passes _ _ _ r.1 in
     let bits = or_parts (ltb 32 d.r) (ltb (d.s + d.r) 1) r.0 in
     record {
       n_low = (between d.n 1 256 n.0).0;
@@ -36,7 +36,7 @@ limits_from_outside d e =
       b_high = (between d.b 1 64 b.0).1;
     }
 
-pub outside_from_limits : (d : Dims) → InLimits d → outside d ≡ 0
+pub outside_from_limits : (d : Dims) → InLimits d → outside d ≡ None
 outside_from_limits d l =
     cond-false _ _ _ (not_outside d.n 1 256 l.n_low l.n_high)
     ∙ (cond-false _ _ _ (not_outside d.k 1 8 l.k_low l.k_high)

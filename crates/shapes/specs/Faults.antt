@@ -1,5 +1,6 @@
 -- The number, the place and the layer of each fault.
 use Rattle.std.specs.Prelude.{ℕ}
+use Rattle.shapes.specs.Limits.{place_of}
 use Rattle.shapes.specs.declared.fault.Fault.{Fault}
 use Rattle.shapes.specs.declared.fault.Fault.TheVariants.{ShapeLimit, FewRows, NotAdmitted, LongKey, TurnedDown, LargeNotice, Conflict, NoBlock, NoCell, ShortBuffer, NoHeader, HeaderLimit, ImageLength, LargeCell}
 use Rattle.shapes.specs.declared.fault.Caller.{Caller}
@@ -24,7 +25,7 @@ layer_by caller.Table = layer.Table
 
 -- All thirteen: a fault's number, its place, and the layer that it comes from.
 abbrev pub named : Fault → Named
-named (ShapeLimit place) = name 1 place layer.Shape
+named (ShapeLimit limit) = name 1 (place_of limit) layer.Shape
 named (FewRows rows) = name 2 rows layer.Draft
 named (NotAdmitted by) = name 3 0 (layer_by by)
 named (LongKey by len) = name 4 len (layer_by by)
@@ -35,6 +36,6 @@ named NoBlock = name 8 1 layer.Draft
 named NoCell = name 8 2 layer.Draft
 named (ShortBuffer len) = name 9 len layer.Draft
 named NoHeader = name 10 0 layer.Table
-named (HeaderLimit place) = name 11 place layer.Table
+named (HeaderLimit limit) = name 11 (place_of limit) layer.Table
 named (ImageLength len) = name 12 len layer.Table
 named (LargeCell cell) = name 13 cell layer.Table

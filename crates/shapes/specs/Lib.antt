@@ -1,3 +1,4 @@
 pub mod Results
 pub mod Limits
 pub mod Faults
+pub mod Texts

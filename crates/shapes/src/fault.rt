@@ -1,7 +1,12 @@
 // Why a call is refused: one type for the whole library.
-ghost use Rattle.std.specs.Prelude.{◌≡◌};
+ghost use Rattle.std.specs.Prelude.{◌≡◌, Some};
 ghost use Rattle.shapes.specs.Faults.{named};
+ghost use Rattle.shapes.specs.Texts.{layer_text, fault_text};
 ghost use Rattle.shapes.specs.declared.fault.Fault.TheVariants.{TurnedDown};
+
+use crate::limit::Limit;
+use std::error::Error;
+use std::fmt;
 
 // Why and where a reader turns a key down, and how many layers stand above the reader that did so, up to 255.
 #[derive(Clone, Copy, PartialEq, Eq, Debug)]
@@ -29,8 +34,8 @@ pub enum Caller {
 
 #[derive(Clone, Copy, PartialEq, Eq, Debug)]
 pub enum Fault {
-    // A number of a shape is outside its limits: 1 to 5 for n, k, s, r, B.
-    ShapeLimit(u8),
+    // A number of a shape is outside its limits: which.
+    ShapeLimit(Limit),
     // A draft has too few rows: how many it needs.
     FewRows(u32),
     // The reader does not admit the shape.
@@ -51,8 +56,8 @@ pub enum Fault {
     ShortBuffer(u32),
     // An image with no header of this version.
     NoHeader,
-    // A number of an image's shape is outside its limits: 1 to 5 as for a shape.
-    HeaderLimit(u8),
+    // A number of an image's shape is outside its limits: which.
+    HeaderLimit(Limit),
     // An image of another length than its shape gives: the length that it should have.
     ImageLength(u32),
     // A cell of an image holds a word of too many bits: which cell, from 0 through all blocks.
@@ -86,7 +91,7 @@ impl Fault {
         ensures { result ≡ (named self.now).place }
     {
         match self {
-            Fault::ShapeLimit(at) | Fault::HeaderLimit(at) => *at as u64,
+            Fault::ShapeLimit(limit) | Fault::HeaderLimit(limit) => u64::from(*limit),
             Fault::FewRows(rows) => *rows as u64,
             Fault::NotAdmitted(_) | Fault::NoHeader => 0,
             Fault::LongKey(_, len) => *len as u64,
@@ -129,3 +134,30 @@ impl From<Refusal> for Fault {
         Fault::TurnedDown(e)
     }
 }
+
+impl fmt::Display for Layer {
+    ghost output = { λ layer. Some (layer_text layer) };
+
+    fn fmt<W: fmt::Write>(&self, f: &mut fmt::Formatter<W>) -> fmt::Result {
+        f.write_str(match self {
+            Layer::Shape => "shape",
+            Layer::Draft => "draft",
+            Layer::Reader => "reader",
+            Layer::Table => "table",
+        })
+    }
+}
+
+// A fault's number, place and layer.
+impl fmt::Display for Fault {
+    ghost output = { λ fault. Some (fault_text fault) };
+
+    fn fmt<W: fmt::Write>(&self, f: &mut fmt::Formatter<W>) -> fmt::Result {
+        let number = self.number();
+        let place = self.place();
+        let layer = self.layer();
+        write!(f, "fault {number}, place {place}, layer {layer}")
+    }
+}
+
+impl Error for Fault {}
