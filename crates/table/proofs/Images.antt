@@ -1,11 +1,12 @@
 -- An image opens as the table that it is the image of, and as no other.
-use Rattle.std.proofs.Common.{◌≡◌, ℕ, zero, suc, ◌+◌, ◌*◌, ◌/◌, ◌%◌, ◌^◌, ◌<◌, ◌≤◌, Bool, true, false, cond, ◌&&◌, eqb, ltb, leb, List, [], ◌∷◌, length, get_or, drop, Ok, Err, Result, sym, refl, ap, ◌∙◌, subst, pow-suc, arith}
+use Rattle.std.proofs.Common.{◌≡◌, ℕ, zero, suc, ◌+◌, ◌*◌, ◌/◌, ◌%◌, ◌^◌, ◌<◌, ◌≤◌, Bool, true, false, cond, ◌&&◌, eqb, ltb, leb, List, [], ◌∷◌, length, get_or, drop, Option, Some, None, Ok, Err, Result, sym, refl, ap, ◌∙◌, subst, pow-suc, arith}
 use native.Mathlib.Nat.{pow-le-pow_right}
 use Rattle.std.specs.List.{flat_map}
 use Rattle.std.proofs.lemmas.Nat.{div-add-mod', div-mul-add, mod-mul-add, pow-add}
 use Rattle.std.proofs.lemmas.List.{drop_more, get_or-drop}
 use Rattle.std.proofs.lemmas.Bool.{leb-true, eqb-true, ltb-true, le-leb, eq-eqb, lt-ltb, and_parts, and_from, cond-true}
-use Rattle.shapes.specs.Limits.{InLimits, outside, limited}
+use Rattle.shapes.specs.Limits.{InLimits, outside, unless, limited}
+use Rattle.shapes.specs.declared.limit.Limit.{Limit}
 use Rattle.shapes.specs.Results.{and_then}
 use Rattle.shapes.specs.declared.fault.Fault.{Fault}
 use Rattle.shapes.specs.declared.fault.Fault.TheVariants.{NoHeader, HeaderLimit, ImageLength, LargeCell}
@@ -58,7 +59,7 @@ heading_is bs d long is same =
 sizing_is : (d : Dims) (cells : List ℕ) → InLimits d → length cells ≡ cells_length d → sizing d cells ≡ Ok d
 sizing_is d cells limits long =
     let sized : Dims → Result Dims Fault = λ e. cond (eqb (length cells) (cells_length e)) (Ok e) (Err (ImageLength (image_length e))) in
-    ap (λ o. and_then o sized) (cond-true _ _ _ (eq-eqb (outside d) 0 (outside_from_limits d limits)))
+    ap (λ o. and_then o sized) (ap (λ o. unless o HeaderLimit d) (outside_from_limits d limits))
     ∙ cond-true _ _ _ (eq-eqb (length cells) (cells_length d) long)
 
 same_dims : (n n' k s r b b' : ℕ) → n ≡ n' → b ≡ b'
@@ -93,14 +94,19 @@ after (Err e) f y h = let z : ◌≡◌ {A = ℕ} 0 1 = cc in absurd (omega arit
 pub same_ok : {X : Type 0} (x y : X) → ◌≡◌ {A = Result X Fault} (Ok x) (Ok y) → x ≡ y
 same_ok x y h = cc
 
+-- nothing is outside its limits
+nothing : (found : Option Limit) (d e : Dims) → unless found HeaderLimit d ≡ Ok e → (found ≡ None) × (d ≡ e)
+nothing None d e h = (refl, same_ok d e h)
+nothing (Some x) d e h = let z : ◌≡◌ {A = ℕ} 0 1 = cc in absurd (omega arith)
+
 sized_as : (d e : Dims) (cells : List ℕ) → sizing d cells ≡ Ok e → (d ≡ e) × InLimits d × (length cells ≡ cells_length d)
 sized_as d e cells h =
     let q = after (limited HeaderLimit d) _ e h in
-    let l = passed (eqb (outside d) 0) (Ok d) (HeaderLimit (outside d)) q.0 q.1 in
-    let same : d ≡ q.0 = same_ok d q.0 l.1 in
+    let l = nothing (outside d) d q.0 q.1 in
+    let same : d ≡ q.0 = l.1 in
     let z = passed (eqb (length cells) (cells_length q.0)) (Ok q.0) (ImageLength (image_length q.0)) e q.2 in (
       same ∙ same_ok q.0 e z.1,
-      limits_from_outside d (eqb-true (outside d) 0 l.0),
+      limits_from_outside d l.0,
       eqb-true (length cells) (cells_length q.0) z.0 ∙ ap cells_length (sym same),
     )
 

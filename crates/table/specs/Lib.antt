@@ -3,3 +3,4 @@ pub mod Images
 pub mod Questions
 pub mod Tables
 pub mod Laws
+pub mod Texts

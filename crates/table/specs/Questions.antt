@@ -5,10 +5,9 @@ use Rattle.readers.specs.Meaning.{Meaning, Clause, read_for}
 use Rattle.shapes.specs.Results.{and_then}
 use Rattle.shapes.specs.declared.fault.Caller.TheVariants.{Table}
 use Rattle.shapes.specs.declared.fault.Fault.{Fault}
-use Rattle.shapes.specs.declared.shape.Dims.{Dims}
 use Rattle.table.specs.declared.reply.Reply.{Reply}
 use Rattle.table.specs.declared.reply.Reply.TheVariants.{No, Maybe}
-use Rattle.table.specs.Images.{Content, words_in, content_of, sizing, opening}
+use Rattle.table.specs.Images.{Content, words_in, opening}
 
 -- The XOR of the words in the cells of w bytes that are in the set.
 abbrev pub xor_in : ℕ → List ℕ → ℕ → ℕ
@@ -29,10 +28,6 @@ reply_to t c = reply_of t.dims.r c.check (xor_over (word_at t c.block) t.dims.n 
 -- The reply of a table to a key, through a reader of this meaning, or the fault of the first check that fails.
 abbrev pub asking : Meaning → Content → List ℕ → Result Reply Fault
 asking m t key = and_then (read_for m Table t.dims key) (λ c. Ok (reply_to t c))
-
--- The same of five numbers and the bytes of cells: where these are no table's, it is refused as opening them is.
-abbrev pub asking_cells : Meaning → Dims → List ℕ → List ℕ → Result Reply Fault
-asking_cells m d cells key = and_then (sizing d cells) (λ e. asking m (content_of e cells) key)
 
 -- The same of an image, which is opened first.
 abbrev pub asking_image : Meaning → List ℕ → List ℕ → Result Reply Fault

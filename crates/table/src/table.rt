@@ -1,5 +1,8 @@
 // A table that borrows its cells from an image. It is made only by opening one.
-use shapes::shape::Dims;
+ghost use Rattle.std.specs.Prelude.{◌≡◌, length};
+ghost use Rattle.table.specs.Sizes.{cells_length};
+
+use shapes::shape::Shape;
 
 mod ask;
 mod open;
@@ -9,9 +12,10 @@ pub use ask::ask_image;
 // The version of the images that are read and written.
 pub const VERSION: u8 = 1;
 
-// The five numbers are plain here, and not a checked shape: an answer that may hold a reference or a fault can hold no ghost field.
+// A checked shape, and the bytes of all its cells.
 #[derive(Clone, Copy)]
 pub struct Table<'a> {
-    dims: Dims,
+    shape: Shape,
     cells: &'a [u8],
+    ghost whole: { length cells.now ≡ cells_length shape.dims },
 }

@@ -1,6 +1,7 @@
 -- The test of a table and its image, and what it says.
-use Rattle.std.proofs.Common.{◌≡◌, ℕ, ◌+◌, ◌*◌, ◌^◌, ◌<◌, ◌≤◌, Bool, true, false, ◌&&◌, ◌||◌, eqb, ltb, ◌⊎◌, List, [], ◌∷◌, length, get_or, refl, ap₂, inl, inr, mul-le-mul_right, arith}
+use Rattle.std.proofs.Common.{◌≡◌, ℕ, ◌+◌, ◌*◌, ◌^◌, ◌<◌, ◌≤◌, Bool, true, false, ◌&&◌, ◌||◌, eqb, ltb, ◌⊎◌, List, [], ◌∷◌, length, get_or, Option, Some, None, refl, ap₂, inl, inr, mul-le-mul_right, arith}
 use native.Mathlib.Decide.{dec_lt}
+use Rattle.std.specs.Option.{is_none}
 use Rattle.std.proofs.lemmas.List.{get_or_past}
 use Rattle.std.proofs.lemmas.Bool.{false≢true, and_parts, or_cases, eqb-true, ltb-true}
 use Rattle.span.specs.Blocks.{Placed, of, BoundIn}
@@ -37,14 +38,19 @@ abbrev small : Content → ℕ → Bool
 small t i = ltb (get_or t.words i 0) (2 ^ (t.dims.s + t.dims.r))
 
 abbrev sound : Content → Bool
-sound t = eqb (outside t.dims) 0 && (eqb (length t.words) (cell_count t.dims) && all_below (length t.words) (small t))
+sound t = is_none (outside t.dims) && (eqb (length t.words) (cell_count t.dims) && all_below (length t.words) (small t))
+
+-- nothing is found
+nothing : {T : Type 0} (o : Option T) → is_none o ≡ true → o ≡ None
+nothing None e = refl
+nothing (Some x) e = absurd (false≢true e)
 
 is_sound : (t : Content) → sound t ≡ true → Sound t
 is_sound t s =
     let p = and_parts _ _ s in
     let q = and_parts _ _ p.1 in
     record {
-      limits = limits_from_outside t.dims (eqb-true _ _ p.0);
+      limits = limits_from_outside t.dims (nothing _ p.0);
       count = eqb-true _ _ q.0;
       small = λ i h. ltb-true _ _ (below (length t.words) (small t) q.1 i h);
     }

@@ -2,8 +2,8 @@
 ghost use Rattle.std.specs.Prelude.{◌≡◌, ◌<◌};
 ghost use Rattle.span.specs.Fillings.{xor_over};
 ghost use Rattle.gf2.specs.Masks.{mask};
-ghost use Rattle.table.specs.Questions.{word_at, reply_of, asking_cells, asking_image};
-ghost use Rattle.table.specs.Tables.{Whole, content};
+ghost use Rattle.table.specs.Questions.{word_at, reply_of, asking, asking_image};
+ghost use Rattle.table.specs.Tables.{content};
 
 use crate::reply::Reply;
 use crate::table::Table;
@@ -16,23 +16,25 @@ use shapes::shape::Shape;
 impl Table<'_> {
     // The reply to a key, read by the reader that the table was made with.
     pub fn ask<R: Reader>(&self, reader: &R, key: &[u8]) -> Result<Reply, Fault>
-        ensures { result ≡ asking_cells (R.Reader.meaning reader.now) self.now.dims self.now.cells.now key.now }
+        ensures { result ≡ asking (R.Reader.meaning reader.now) (content self.now) key.now }
     {
-        let shape = self.shape()?;
-        let clause = clause_for(reader, &shape, key, Caller::Table)?;
-        let word = self.xor(&shape, clause.block as usize, clause.cells);
-        Ok(reply(&shape, clause.check, word))
+        let clause = clause_for(reader, &self.shape, key, Caller::Table)?;
+        let word = self.xor(clause.block as usize, clause.cells);
+        Ok(reply(&self.shape, clause.check, word))
     }
 
     // The XOR of the words in these cells of a block.
-    fn xor(&self, shape: &Shape, block: usize, cells: CellSet) -> u64
-        requires whole { Whole shape.now.dims self.now }
-        requires within { block < shape.now.dims.b }
-        ensures { result ≡ xor_over (word_at (content self.now) block) shape.now.dims.n (mask cells) }
+    fn xor(&self, block: usize, cells: CellSet) -> u64
+        requires { block < self.now.shape.dims.b }
+        ensures { result ≡ xor_over (word_at (content self.now) block) self.now.shape.dims.n (mask cells) }
     {
-        let width = sizes::cell_width(shape);
-        let size = shape.dims().n as usize * width;
-        cells::xor_cells(&self.cells[block * size..(block + 1) * size], shape, cells)
+        let width = sizes::cell_width(&self.shape);
+        let size = self.shape.dims().n as usize * width;
+        cells::xor_cells(
+            &self.cells[block * size..(block + 1) * size],
+            &self.shape,
+            cells,
+        )
     }
 }
 
