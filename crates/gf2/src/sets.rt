@@ -91,6 +91,15 @@ impl CellSet {
     }
 }
 
+// The set of these words, the low word first.
+impl From<[u64; WORDS]> for CellSet {
+    ghost from_gives = { λ words set. mask set ≡ value words };
+
+    fn from(bits: [u64; WORDS]) -> CellSet {
+        CellSet { words: bits }
+    }
+}
+
 // ---- bits in a run of words of any length, the low word first
 
 // The bits of a word.

@@ -1,35 +1,18 @@
 -- The bytes of the lines that the program prints.
-use Rattle.std.specs.Prelude.{ℕ, zero, suc, ◌+◌, ◌/◌, ◌%◌, Bool, cond, List, [], ◌∷◌, ◌++◌, Ok, Err, codes, decimal, Result, ◌==◌, nat_lt}
+use Rattle.std.specs.Prelude.{ℕ, zero, suc, Bool, cond, List, [], ◌∷◌, ◌++◌, Ok, Err, codes, decimal, Result, ◌==◌}
 use Rattle.span.specs.Sets.{has}
 use Rattle.gf2.specs.Masks.{value, width}
-use Rattle.shapes.specs.Faults.{named}
+use Rattle.shapes.specs.Texts.{fault_text}
 use Rattle.shapes.specs.declared.fault.Fault.{Fault}
 use Rattle.shapes.specs.declared.fault.Fault.TheVariants.{ShapeLimit, FewRows, NotAdmitted, LongKey, TurnedDown, LargeNotice, Conflict, NoBlock, NoCell, ShortBuffer, NoHeader, HeaderLimit, ImageLength, LargeCell}
-use Rattle.shapes.specs.declared.fault.Layer.{Layer}
-use Rattle.shapes.specs.declared.fault.Layer.TheVariants.{Shape, Draft, Reader, Table}
 use Rattle.table.specs.declared.reply.Reply.{Reply}
-use Rattle.table.specs.declared.reply.Reply.TheVariants.{No, Maybe}
+use Rattle.table.specs.Texts.{reply_text}
+use Rattle.hex.specs.Hex.{encode_lower}
 use Rattle.table.specs.Images.{Content}
 use Rattle.drafts.specs.Outcomes.{dependent}
 use Rattle.runs.specs.Runs.{Deed, enters, writes, asks, counts}
 use Rattle.runs.specs.declared.works.Outcome.{Outcome}
 use Rattle.runs.specs.declared.works.Outcome.TheVariants.{Entered, Wrote, Bound, Counted}
-
--- The character of a hexadecimal digit: 0 to 9, and then a to f.
-abbrev pub hex_digit : ℕ → ℕ
-hex_digit n = cond (nat_lt n 10) (48 + n) (87 + n)
-
--- Two digits for each byte, the high digit first.
-abbrev pub hex : List ℕ → List ℕ
-hex [] = []
-hex (b ∷ bs) = hex_digit (b / 16) ∷ hex_digit (b % 16) ∷ hex bs
-
--- The name of a layer.
-abbrev pub layer_text : Layer → List ℕ
-layer_text Shape = codes "shape"
-layer_text Draft = codes "draft"
-layer_text Reader = codes "reader"
-layer_text Table = codes "table"
 
 -- The members of the set m that are below n, in rising order.
 unfoldable pub members : ℕ → ℕ → List ℕ
@@ -41,10 +24,9 @@ abbrev pub spaced : List ℕ → List ℕ
 spaced [] = []
 spaced (n ∷ ns) = (codes " " ++ decimal n) ++ spaced ns
 
--- As in ", slots 0 1 2", or ", no slots".
-abbrev pub slots_text : List ℕ → List ℕ
-slots_text [] = codes ", no slots"
-slots_text (n ∷ ns) = codes ", slots" ++ spaced (n ∷ ns)
+-- The slots of a set: as in ", slots 0 1 2", or ", no slots".
+abbrev pub slots_text : ℕ → List ℕ
+slots_text m = cond (m == 0) (codes ", no slots") (codes ", slots" ++ spaced (members m width))
 
 -- What only some faults tell: a reader's refusal its reason and depth, a conflict its slots.
 abbrev pub detail_text : Fault → List ℕ
@@ -54,7 +36,7 @@ detail_text (NotAdmitted by) = []
 detail_text (LongKey by len) = []
 detail_text (TurnedDown refusal) = codes ", reason " ++ (decimal refusal.reason ++ (codes ", depth " ++ decimal refusal.depth))
 detail_text (LargeNotice bits) = []
-detail_text (Conflict block slots) = slots_text (members (value slots) width)
+detail_text (Conflict block slots) = slots_text (value slots)
 detail_text NoBlock = []
 detail_text NoCell = []
 detail_text (ShortBuffer len) = []
@@ -63,19 +45,13 @@ detail_text (HeaderLimit place) = []
 detail_text (ImageLength len) = []
 detail_text (LargeCell cell) = []
 
--- As in "fault 13, place 2, layer table".
-abbrev pub fault_text : Fault → List ℕ
-fault_text f =
-    codes "fault " ++ (decimal (named f).number ++ (codes ", place " ++ (decimal (named f).place ++ (codes ", layer " ++ layer_text (named f).layer))))
-
 -- As in "fault 7, place 0, layer draft, slots 0 1 2".
 abbrev pub full_fault_text : Fault → List ℕ
 full_fault_text f = fault_text f ++ detail_text f
 
 -- As in "No" and "Maybe 2".
 abbrev pub answer_text : Result Reply Fault → List ℕ
-answer_text (Ok No) = codes "No"
-answer_text (Ok (Maybe notice)) = codes "Maybe " ++ decimal notice
+answer_text (Ok reply) = reply_text reply
 answer_text (Err f) = fault_text f
 
 -- What came of opening an image.
@@ -85,15 +61,15 @@ opened_text (Err f) = fault_text f
 
 -- As in "image 0103..: opened".
 abbrev pub opened_line : List ℕ → Result Content Fault → List ℕ
-opened_line image outcome = codes "image " ++ (hex image ++ (codes ": " ++ opened_text outcome))
+opened_line image outcome = codes "image " ++ (encode_lower image ++ (codes ": " ++ opened_text outcome))
 
 -- As in "serial b85c341a: Maybe 0".
 abbrev pub asked_line : List ℕ → Result Reply Fault → List ℕ
-asked_line key answer = codes "serial " ++ (hex key ++ (codes ": " ++ answer_text answer))
+asked_line key answer = codes "serial " ++ (encode_lower key ++ (codes ": " ++ answer_text answer))
 
 -- As in "enter b85c341a, notice 0", "write", "cell 1 of block 0" and "block 0".
 abbrev pub deed_text : Deed → List ℕ
-deed_text (enters key notice) = codes "enter " ++ (hex key ++ (codes ", notice " ++ decimal notice))
+deed_text (enters key notice) = codes "enter " ++ (encode_lower key ++ (codes ", notice " ++ decimal notice))
 deed_text writes = codes "write"
 deed_text (asks block cell) = codes "cell " ++ (decimal cell ++ (codes " of block " ++ decimal block))
 deed_text (counts block) = codes "block " ++ decimal block

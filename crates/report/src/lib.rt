@@ -1,8 +1,8 @@
 // The lines that the program prints, each promised byte for byte.
 #![tactic(auto)]
 
+mod detail;
 mod lines;
-mod text;
 mod works;
 
 pub use lines::{asked, opened};

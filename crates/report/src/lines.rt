@@ -1,10 +1,9 @@
 // What was asked of an image, and what came of it.
-ghost use Rattle.std.specs.Prelude.{◌≡◌, ◌<◌, IfOk, string_bytes};
+ghost use Rattle.std.specs.Prelude.{◌≡◌, IfOk, string_bytes};
 ghost use Rattle.table.specs.Images.{opening};
 ghost use Rattle.table.specs.Questions.{asking_image};
-ghost use Rattle.report.specs.Texts.{opened_text, opened_line, asked_line, hex_digit, hex};
+ghost use Rattle.report.specs.Texts.{opened_line, asked_line};
 
-use crate::text;
 use readers::reader::Reader;
 use std::alloc::{AllocError, Global};
 use table::{Table, ask_image};
@@ -13,17 +12,10 @@ use table::{Table, ask_image};
 pub fn opened(heap: Global, image: &[u8]) -> Result<String, AllocError>
     ensures { IfOk result (λ s. string_bytes s ≡ opened_line image.now (opening image.now)) }
 {
-    let bytes = hex_text(heap, image)?;
-    let outcome = opening_text(heap, image)?;
-    format!(in heap; "image {bytes}: {outcome}")
-}
-
-fn opening_text(heap: Global, image: &[u8]) -> Result<String, AllocError>
-    ensures { IfOk result (λ s. string_bytes s ≡ opened_text (opening image.now)) }
-{
+    let bytes = hex::encode(heap, image)?;
     match Table::open(image) {
-        Ok(_) => String::from_str(heap, "opened"),
-        Err(fault) => text::of_fault(heap, &fault),
+        Ok(_) => format!(in heap; "image {bytes}: opened"),
+        Err(fault) => format!(in heap; "image {bytes}: {fault}"),
     }
 }
 
@@ -36,32 +28,9 @@ pub fn asked<R: Reader>(
 ) -> Result<String, AllocError>
     ensures { IfOk result (λ s. string_bytes s ≡ asked_line key.now (asking_image (R.Reader.meaning reader.now) image.now key.now)) }
 {
-    let serial = hex_text(heap, key)?;
-    let answer = text::of_answer(heap, ask_image(image, reader, key))?;
-    format!(in heap; "serial {serial}: {answer}")
-}
-
-// The digit of a number below 16.
-fn digit(n: u8) -> char
-    requires { n < 16 }
-    ensures is { result ≡ hex_digit n }
-    ensures ascii { result < 128 }
-{
-    if n < 10 {
-        (b'0' + n) as char
-    } else {
-        (b'a' + (n - 10)) as char
+    let serial = hex::encode(heap, key)?;
+    match ask_image(image, reader, key) {
+        Ok(reply) => format!(in heap; "serial {serial}: {reply}"),
+        Err(fault) => format!(in heap; "serial {serial}: {fault}"),
     }
-}
-
-// Two digits for each byte.
-pub fn hex_text(heap: Global, bytes: &[u8]) -> Result<String, AllocError>
-    ensures { IfOk result (λ s. string_bytes s ≡ hex bytes.now) }
-{
-    let mut text = String::new(heap);
-    for b in bytes {
-        text.push(digit(*b / 16))?;
-        text.push(digit(*b % 16))?;
-    }
-    Ok(text)
 }
