@@ -1,6 +1,7 @@
 // Images: the published one, the replies to its serials, and damaged ones.
 #[cfg(test)]
 mod tests {
+    use crate::given::IMAGE;
     use readers::fold::Fold;
     use readers::split::Split;
     use readers::stream::Stream;
@@ -8,11 +9,17 @@ mod tests {
     use std::test::Fail;
     use table::{Reply, Table, ask_image};
 
-    const IMAGE: [u8; 12] = [1, 3, 0, 4, 3, 2, 0, 1, 25, 0, 26, 9];
-
     // What opening refuses with, or nothing where the bytes open.
     fn refused(image: &[u8]) -> Option<Fault> {
         Table::open(image).err()
+    }
+
+    // The place of the number of the header's shape that is outside its limits.
+    fn outside(image: &[u8]) -> Option<u64> {
+        match refused(image)? {
+            Fault::HeaderLimit(limit) => Some(u64::from(limit)),
+            _ => None,
+        }
     }
 
     #[test]
@@ -91,13 +98,13 @@ mod tests {
 
     #[test]
     fn header_outside_limits(rt: HostRuntime) {
-        assert!(rt; refused(&[1, 3, 0, 0, 3, 2, 0, 1]) == Some(Fault::HeaderLimit(1)));
-        assert!(rt; refused(&[1, 3, 1, 1, 3, 2, 0, 1]) == Some(Fault::HeaderLimit(1)));
-        assert!(rt; refused(&[1, 9, 1, 0, 3, 2, 0, 1]) == Some(Fault::HeaderLimit(2)));
-        assert!(rt; refused(&[1, 3, 0, 4, 33, 2, 0, 1]) == Some(Fault::HeaderLimit(3)));
-        assert!(rt; refused(&[1, 3, 0, 4, 0, 0, 0, 1]) == Some(Fault::HeaderLimit(4)));
-        assert!(rt; refused(&[1, 3, 0, 4, 3, 2, 0, 65]) == Some(Fault::HeaderLimit(5)));
-        assert!(rt; refused(&[1, 3, 0, 4, 3, 2, 1, 1]) == Some(Fault::HeaderLimit(5)));
+        assert_eq!(rt; outside(&[1, 3, 0, 0, 3, 2, 0, 1]), Some(1));
+        assert_eq!(rt; outside(&[1, 3, 1, 1, 3, 2, 0, 1]), Some(1));
+        assert_eq!(rt; outside(&[1, 9, 1, 0, 3, 2, 0, 1]), Some(2));
+        assert_eq!(rt; outside(&[1, 3, 0, 4, 33, 2, 0, 1]), Some(3));
+        assert_eq!(rt; outside(&[1, 3, 0, 4, 0, 0, 0, 1]), Some(4));
+        assert_eq!(rt; outside(&[1, 3, 0, 4, 3, 2, 0, 65]), Some(5));
+        assert_eq!(rt; outside(&[1, 3, 0, 4, 3, 2, 1, 1]), Some(5));
     }
 
     #[test]

@@ -3,6 +3,8 @@
 #![tactic(auto)]
 
 mod elimination;
+#[cfg(test)]
+mod given;
 mod images;
 mod limits;
 mod lists;

@@ -1,6 +1,7 @@
 // Drafts: the published example with lean and full rows, faults in their order, and several blocks.
 #[cfg(test)]
 mod tests {
+    use crate::given::{CAT, DOG, FISH, HORSE, IMAGE, shape};
     use drafts::{DEPENDENT, Draft};
     use gf2::kinds::{Pair, Word};
     use gf2::marked::Marked;
@@ -9,30 +10,12 @@ mod tests {
     use readers::split::Split;
     use readers::stream::{Stream, fnv1a};
     use shapes::fault::{Caller, Fault, Refusal};
-    use shapes::shape::{Dims, Shape};
     use std::process::Abort;
     use std::test::Fail;
     use table::{Reply, ask_image};
 
     // A word with a slot set: what a full row carries.
     type Full = Pair<Word, CellSet>;
-
-    const CAT: [u8; 4] = [0xb8, 0x5c, 0x34, 0x1a];
-
-    const FISH: [u8; 4] = [0x87, 0x02, 0x4b, 0xb7];
-
-    const DOG: [u8; 4] = [0x3f, 0xa6, 0xd2, 0xdf];
-
-    const HORSE: [u8; 4] = [0x3f, 0x37, 0xa1, 0xa7];
-
-    const IMAGE: [u8; 12] = [1, 3, 0, 4, 3, 2, 0, 1, 25, 0, 26, 9];
-
-    fn shape(n: u16, k: u16, s: u16, r: u16, b: u16) -> Result<Shape, Fail> {
-        match Shape::check(Dims { n, k, s, r, b }) {
-            Ok(shape) => Ok(shape),
-            Err(_) => Err(Fail::new("shape")),
-        }
-    }
 
     // A row as it may be found in lent memory.
     fn old<K: Marked>() -> Row<K> {
@@ -87,13 +70,13 @@ mod tests {
     #[test]
     fn published_image_in_two_orders(rt: HostRuntime) -> Result<(), Fail> {
         let mut rows = [old::<Full>(); 4];
-        let mut draft = Draft::open(shape(4, 3, 3, 2, 1)?, &mut rows);
+        let mut draft = Draft::open(shape([4, 3, 3, 2, 1])?, &mut rows);
         assert_eq!(rt; bound(&draft, 0)?, ([false; 4], 0));
         publish(&rt, &mut draft)?;
         assert_eq!(rt; bound(&draft, 0)?, ([true, false, true, true], 3));
         assert_eq!(rt; image(&rt, &draft)?, IMAGE);
         let mut others = [old::<Full>(); 4];
-        let mut turned = Draft::open(shape(4, 3, 3, 2, 1)?, &mut others);
+        let mut turned = Draft::open(shape([4, 3, 3, 2, 1])?, &mut others);
         takes(&rt, &mut turned, DOG, 2, (0, 0))?;
         takes(&rt, &mut turned, FISH, 1, (0, 1))?;
         takes(&rt, &mut turned, CAT, 0, (0, 2))?;
@@ -127,7 +110,7 @@ mod tests {
         named: bool,
     ) -> Result<(), Fail> {
         let (key, notice, answer, cells) = case;
-        let mut draft = Draft::open(shape(4, 3, 3, 2, 1)?, rows);
+        let mut draft = Draft::open(shape([4, 3, 3, 2, 1])?, rows);
         publish(rt, &mut draft)?;
         let told = draft.enter(&Split, &key, notice);
         let expected = match answer {
@@ -161,7 +144,7 @@ mod tests {
     #[test]
     fn no_cells_left(rt: HostRuntime) -> Result<(), Fail> {
         let mut rows = [old::<Full>(); 1];
-        let mut draft = Draft::open(shape(1, 2, 1, 0, 1)?, &mut rows);
+        let mut draft = Draft::open(shape([1, 2, 1, 0, 1])?, &mut rows);
         takes(&rt, &mut draft, [0, 0, 0, 0], 0, (0, DEPENDENT))?;
         let conflict = refusal(&mut draft, &[0x00, 0x10, 0, 0], 0);
         assert!(rt; conflict == Some(Fault::Conflict(0, [0; 4])));
@@ -170,23 +153,21 @@ mod tests {
     }
 
     // The fault's number and place.
-    fn named(fault: Option<Fault>) -> (u8, u64) {
-        match fault {
-            Some(fault) => (fault.number(), fault.place()),
-            None => (0, 0),
-        }
+    fn named(fault: Option<Fault>) -> Option<(u8, u64)> {
+        let fault = fault?;
+        Some((fault.number(), fault.place()))
     }
 
     // Before everything else: the reader does not admit the shape, the key is too long, the notice too large, and so on.
     #[test]
     fn too_few_rows(rt: HostRuntime) -> Result<(), Fail> {
         let mut rows = [old::<Word>(); 3];
-        let mut draft = Draft::open(shape(4, 7, 3, 2, 1)?, &mut rows);
+        let mut draft = Draft::open(shape([4, 7, 3, 2, 1])?, &mut rows);
         let mut buffer = [0xAA; 11];
-        assert_eq!(rt; named(refusal(&mut draft, &[0; 65], 4)), (2, 4));
-        assert_eq!(rt; named(draft.is_bound(1, 4).err()), (2, 4));
-        assert_eq!(rt; named(draft.count_bound(1).err()), (2, 4));
-        assert_eq!(rt; named(draft.write(&mut buffer).err()), (2, 4));
+        assert_eq!(rt; named(refusal(&mut draft, &[0; 65], 4)), Some((2, 4)));
+        assert_eq!(rt; named(draft.is_bound(1, 4).err()), Some((2, 4)));
+        assert_eq!(rt; named(draft.count_bound(1).err()), Some((2, 4)));
+        assert_eq!(rt; named(draft.write(&mut buffer).err()), Some((2, 4)));
         assert_eq!(rt; buffer, [0xAA; 11]);
         Ok(())
     }
@@ -194,23 +175,23 @@ mod tests {
     #[test]
     fn faults_of_entering(rt: HostRuntime) -> Result<(), Fail> {
         let mut others = [old::<Word>(); 4];
-        let mut draft = Draft::open(shape(4, 7, 3, 2, 1)?, &mut others);
+        let mut draft = Draft::open(shape([4, 7, 3, 2, 1])?, &mut others);
         let apart = refusal(&mut draft, &[0; 65], 4);
         assert!(rt; apart == Some(Fault::NotAdmitted(Caller::Draft)));
-        assert_eq!(rt; named(apart), (3, 0));
+        assert_eq!(rt; named(apart), Some((3, 0)));
         let mut rows = [old::<Word>(); 4];
-        let mut draft = Draft::open(shape(4, 3, 3, 2, 1)?, &mut rows);
+        let mut draft = Draft::open(shape([4, 3, 3, 2, 1])?, &mut rows);
         let long = refusal(&mut draft, &[0; 65], 4);
         assert!(rt; long == Some(Fault::LongKey(Caller::Draft, 65)));
-        assert_eq!(rt; named(long), (4, 65));
+        assert_eq!(rt; named(long), Some((4, 65)));
         let short = Refusal {
             reason: 1,
             place: 3,
             depth: 0,
         };
         assert!(rt; refusal(&mut draft, b"cat", 4) == Some(Fault::TurnedDown(short)));
-        assert_eq!(rt; named(refusal(&mut draft, &[0; 64], 4)), (5, 64));
-        assert_eq!(rt; named(refusal(&mut draft, &CAT, 4)), (6, 2));
+        assert_eq!(rt; named(refusal(&mut draft, &[0; 64], 4)), Some((5, 64)));
+        assert_eq!(rt; named(refusal(&mut draft, &CAT, 4)), Some((6, 2)));
         assert_eq!(rt; image(&rt, &draft)?, [1, 3, 0, 4, 3, 2, 0, 1, 0, 0, 0, 0]);
         takes(&rt, &mut draft, CAT, 3, (0, 0))
     }
@@ -218,10 +199,10 @@ mod tests {
     #[test]
     fn faults_of_questions(rt: HostRuntime) -> Result<(), Fail> {
         let mut rows = [old::<Word>(); 4];
-        let draft = Draft::open(shape(4, 3, 3, 2, 1)?, &mut rows);
-        assert_eq!(rt; named(draft.is_bound(1, 4).err()), (8, 1));
-        assert_eq!(rt; named(draft.count_bound(1).err()), (8, 1));
-        assert_eq!(rt; named(draft.is_bound(0, 4).err()), (8, 2));
+        let draft = Draft::open(shape([4, 3, 3, 2, 1])?, &mut rows);
+        assert_eq!(rt; named(draft.is_bound(1, 4).err()), Some((8, 1)));
+        assert_eq!(rt; named(draft.count_bound(1).err()), Some((8, 1)));
+        assert_eq!(rt; named(draft.is_bound(0, 4).err()), Some((8, 2)));
         assert_eq!(rt; draft.is_bound(0, 3)?, false);
         Ok(())
     }
@@ -229,10 +210,10 @@ mod tests {
     #[test]
     fn buffers_of_other_lengths(rt: HostRuntime) -> Result<(), Fail> {
         let mut rows = [old::<Full>(); 4];
-        let mut draft = Draft::open(shape(4, 3, 3, 2, 1)?, &mut rows);
+        let mut draft = Draft::open(shape([4, 3, 3, 2, 1])?, &mut rows);
         publish(&rt, &mut draft)?;
         let mut short = [0xAA; 11];
-        assert_eq!(rt; named(draft.write(&mut short).err()), (9, 12));
+        assert_eq!(rt; named(draft.write(&mut short).err()), Some((9, 12)));
         assert_eq!(rt; short, [0xAA; 11]);
         let mut long = [0xAA; 14];
         assert_eq!(rt; draft.write(&mut long)?, 12);
@@ -245,7 +226,7 @@ mod tests {
     #[test]
     fn blocks_stay_apart(rt: HostRuntime) -> Result<(), Fail> {
         let mut rows = [old::<Full>(); 9];
-        let mut draft = Draft::open(shape(4, 3, 3, 2, 2)?, &mut rows);
+        let mut draft = Draft::open(shape([4, 3, 3, 2, 2])?, &mut rows);
         takes(&rt, &mut draft, FISH, 1, (0, 0))?;
         takes(&rt, &mut draft, CAT, 0, (1, 0))?;
         takes(&rt, &mut draft, DOG, 2, (1, 1))?;
@@ -312,7 +293,7 @@ mod tests {
     #[test]
     fn forty_keys_in_three_blocks(rt: HostRuntime) -> Result<(), Fail> {
         let mut rows = [old::<Word>(); 36];
-        let mut draft = Draft::open(shape(12, 3, 8, 8, 3)?, &mut rows);
+        let mut draft = Draft::open(shape([12, 3, 8, 8, 3])?, &mut rows);
         answers_all(&rt, &image_of_all(&rt, &mut draft)?)?;
         answers_all(&rt, &image_of_all(&rt, &mut draft)?)
     }

@@ -3,34 +3,15 @@ ghost use Rattle.std.specs.Prelude.{◌≡◌};
 
 #[cfg(test)]
 mod tests {
-    use gf2::sets::CellSet;
+    use crate::given::{CAT, DOG, FISH, HORSE, shape};
     use readers::clause::Clause;
     use readers::fold::Fold;
     use readers::reader::Reader;
     use readers::split::Split;
     use readers::stream::Stream;
     use shapes::fault::Refusal;
-    use shapes::shape::{Dims, Shape};
     use std::process::Abort;
     use std::test::Fail;
-
-    fn shape(n: u16, k: u16, s: u16, r: u16, b: u16) -> Result<Shape, Fail> {
-        match Shape::check(Dims { n, k, s, r, b }) {
-            Ok(shape) => Ok(shape),
-            Err(_) => Err(Fail::new("shape")),
-        }
-    }
-
-    // A set's four words.
-    fn words(cells: CellSet) -> [u64; 4] {
-        let mut words = [0; 4];
-        for c in 0..256 {
-            if cells.contains(c) {
-                words[c / 64] |= 1 << (c % 64);
-            }
-        }
-        words
-    }
 
     // The clause that is told must have this block, these cells and this check.
     fn tells(
@@ -40,15 +21,11 @@ mod tests {
         cells: [u64; 4],
         check: u32,
     ) -> Result<(), Fail> {
-        match told {
-            Ok(clause) => {
-                assert_eq!(rt; clause.block, block);
-                assert_eq!(rt; words(clause.cells), cells);
-                assert_eq!(rt; clause.check, check);
-                Ok(())
-            }
-            Err(_) => Err(Fail::new("refused")),
-        }
+        let clause = told?;
+        assert_eq!(rt; clause.block, block);
+        assert_eq!(rt; clause.cells.words(), cells);
+        assert_eq!(rt; clause.check, check);
+        Ok(())
     }
 
     fn refuses(
@@ -58,78 +35,47 @@ mod tests {
         place: u32,
         depth: u8,
     ) -> Result<(), Fail> {
-        match told {
-            Ok(_) => Err(Fail::new("not refused")),
-            Err(refusal) => {
-                assert_eq!(rt;
-                    refusal,
-                    Refusal {
-                        reason,
-                        place,
-                        depth,
-                    }
-                );
-                Ok(())
-            },
-        }
+        let refusal = Refusal {
+            reason,
+            place,
+            depth,
+        };
+        assert_eq!(rt; told.err(), Some(refusal));
+        Ok(())
     }
 
     #[test]
     fn published_clauses(rt: HostRuntime) -> Result<(), Fail> {
-        let small = shape(4, 3, 3, 2, 1)?;
-        tells(
-            &rt,
-            Split.read(&small, &[0xb8, 0x5c, 0x34, 0x1a]),
-            0,
-            [0b1011, 0, 0, 0],
-            4,
-        )?;
-        tells(
-            &rt,
-            Split.read(&small, &[0x87, 0x02, 0x4b, 0xb7]),
-            0,
-            [0b1000, 0, 0, 0],
-            2,
-        )?;
-        tells(
-            &rt,
-            Split.read(&small, &[0x3f, 0xa6, 0xd2, 0xdf]),
-            0,
-            [0b0100, 0, 0, 0],
-            6,
-        )?;
-        tells(
-            &rt,
-            Split.read(&small, &[0x3f, 0x37, 0xa1, 0xa7]),
-            0,
-            [0b1000, 0, 0, 0],
-            7,
-        )
+        let small = shape([4, 3, 3, 2, 1])?;
+        tells(&rt, Split.read(&small, &CAT), 0, [0b1011, 0, 0, 0], 4)?;
+        tells(&rt, Split.read(&small, &FISH), 0, [0b1000, 0, 0, 0], 2)?;
+        tells(&rt, Split.read(&small, &DOG), 0, [0b0100, 0, 0, 0], 6)?;
+        tells(&rt, Split.read(&small, &HORSE), 0, [0b1000, 0, 0, 0], 7)
     }
 
     #[test]
     fn split_admits(rt: HostRuntime) -> Result<(), Fail> {
-        assert!(rt; Split.admits(&shape(16, 6, 4, 32, 16)?));
-        assert!(rt; !Split.admits(&shape(17, 6, 4, 32, 16)?));
-        assert!(rt; !Split.admits(&shape(16, 7, 4, 32, 16)?));
-        assert!(rt; !Split.admits(&shape(16, 6, 5, 32, 16)?));
-        assert!(rt; !Split.admits(&shape(16, 6, 4, 32, 17)?));
+        assert!(rt; Split.admits(&shape([16, 6, 4, 32, 16])?));
+        assert!(rt; !Split.admits(&shape([17, 6, 4, 32, 16])?));
+        assert!(rt; !Split.admits(&shape([16, 7, 4, 32, 16])?));
+        assert!(rt; !Split.admits(&shape([16, 6, 5, 32, 16])?));
+        assert!(rt; !Split.admits(&shape([16, 6, 4, 32, 17])?));
         Ok(())
     }
 
     #[test]
     fn split_refuses(rt: HostRuntime) -> Result<(), Fail> {
-        let small = shape(4, 3, 3, 2, 1)?;
+        let small = shape([4, 3, 3, 2, 1])?;
         refuses(&rt, Split.read(&small, b""), 1, 0, 0)?;
         refuses(&rt, Split.read(&small, b"cat"), 1, 3, 0)?;
         refuses(&rt, Split.read(&small, &[0; 64]), 1, 64, 0)?;
         refuses(&rt, Split.read(&small, &[0; 65]), 0, 0, 0)?;
-        refuses(&rt, Split.read(&shape(4, 7, 3, 2, 1)?, b"cat!"), 0, 0, 0)
+        refuses(&rt, Split.read(&shape([4, 7, 3, 2, 1])?, b"cat!"), 0, 0, 0)
     }
 
     #[test]
     fn stream_clauses(rt: HostRuntime) -> Result<(), Fail> {
-        let large = shape(256, 8, 32, 32, 64)?;
+        let large = shape([256, 8, 32, 32, 64])?;
         let salted = Stream {
             salt: 0x0123456789abcdef,
         };
@@ -142,7 +88,7 @@ mod tests {
         )?;
         tells(
             &rt,
-            Stream { salt: 0 }.read(&shape(100, 5, 16, 16, 7)?, b""),
+            Stream { salt: 0 }.read(&shape([100, 5, 16, 16, 7])?, b""),
             0,
             [34366030084, 0, 0, 0],
             4527,
@@ -152,7 +98,7 @@ mod tests {
 
     #[test]
     fn fold_drops_and_raises(rt: HostRuntime) -> Result<(), Fail> {
-        let large = shape(256, 8, 32, 32, 64)?;
+        let large = shape([256, 8, 32, 32, 64])?;
         let salted = Stream {
             salt: 0x0123456789abcdef,
         };
@@ -175,12 +121,12 @@ mod tests {
 
     #[test]
     fn fold_refuses(rt: HostRuntime) -> Result<(), Fail> {
-        let small = shape(4, 3, 3, 2, 1)?;
+        let small = shape([4, 3, 3, 2, 1])?;
         let pile = Fold(Fold(Split));
         refuses(&rt, pile.read(&small, &[0x41, 0x1f, 0x7f]), 2, 1, 0)?;
         refuses(&rt, pile.read(&small, &[0x20, 0x7e, 0x7f]), 2, 2, 0)?;
         refuses(&rt, pile.read(&small, b"a b-c"), 1, 3, 2)?;
         refuses(&rt, pile.read(&small, &[0x41; 65]), 0, 0, 0)?;
-        refuses(&rt, pile.read(&shape(17, 3, 3, 2, 1)?, b"cat!"), 0, 0, 0)
+        refuses(&rt, pile.read(&shape([17, 3, 3, 2, 1])?, b"cat!"), 0, 0, 0)
     }
 }
