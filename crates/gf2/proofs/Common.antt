@@ -1,15 +1,8 @@
 -- The first cell that is in both of two sets, word by word.
-use mathlib.Core.Path.{◌≡◌, refl, sym, ap, ap₂, ◌∙◌}
-use mathlib.Core.Bool.{Bool, true, false, cond, true≢false}
-use mathlib.Core.List.{List}
-use mathlib.Core.Logic.{inl, inr}
-use Prim.Native.Nat.{ℕ, ◌+◌, ◌-◌, ◌*◌, ◌/◌, ◌%◌, ◌^◌, ◌<◌, ◌≤◌}
-use native.Mathlib.Omega.{arith}
-use lib.Bits.{bit_and, and_le_l}
-use lib.Count.{count_trailing_zeros}
-use lib.ListN.{length, get_or}
-use lib.Pow.{shr_le}
+use Rattle.std.proofs.Common.{◌≡◌, ℕ, ◌+◌, ◌-◌, ◌*◌, ◌/◌, ◌%◌, ◌^◌, ◌<◌, ◌≤◌, Bool, true, false, cond, List, length, get_or, bit_and, sym, refl, ap, ◌∙◌, ap₂, inl, inr, true≢false, arith}
 use Rattle.std.proofs.lemmas.Bool.{cases_lt}
+use Rattle.std.proofs.lemmas.Nat.{and_le_l, shr_le}
+use Rattle.std.specs.Int.Count.{count_trailing_zeros}
 use Rattle.span.specs.Sets.{has}
 use Rattle.span.proofs.Bits.{has_and, has_past, has_shifted, has_zero}
 use Rattle.gf2.specs.Masks.{Fit, value, NoCommon, FirstCommon}

@@ -1,7 +1,6 @@
 -- Words written from the last cell down.
-use Rattle.std.proofs.Common.{◌≡◌, ℕ, suc, ◌+◌, ◌^◌, ◌<◌, ◌≤◌, Bool, true, false, List, length, get_or, set, sym, ap, ◌∙◌, ap₂, zero-le, arith, get_or-set_other, get_or-set_same}
-use native.Mathlib.Decide.{ℕ_discrete as dec_eq}
-use lib.Bits.{bit_xor}
+use Rattle.std.proofs.Common.{◌≡◌, ℕ, suc, ◌+◌, ◌^◌, ◌<◌, ◌≤◌, Bool, true, false, List, length, get_or, set, bit_xor, sym, ap, ◌∙◌, ap₂, zero-le, arith, get_or-set_other, get_or-set_same}
+use Rattle.std.proofs.Math.Decide.{ℕ_discrete as dec_eq}
 use Rattle.span.specs.Sets.{has}
 use Rattle.span.specs.Echelon.{Row, State, Echelon}
 use Rattle.span.specs.Fillings.{pick, xor_over, SubstitutedFrom, substituted}

@@ -1,13 +1,13 @@
 -- The number that words stand for: membership and XOR go word by word, for any number of words.
-use Rattle.std.proofs.Common.{◌≡◌, ℕ, zero, suc, ◌+◌, ◌-◌, ◌*◌, ◌/◌, ◌%◌, ◌^◌, ◌<◌, ◌≤◌, Bool, true, false, cond, eqb, List, [], ◌∷◌, length, get_or, set, sym, refl, ap, ◌∙◌, ap₂, inl, inr, true≢false, add-zero, mod-lt, zero-lt-suc, zero-add, arith, pow_pos, pow-add, shr-shr}
-use lib.Bits.{bit_xor, xor_block, xor_zero_r}
-use lib.Count.{count_trailing_zeros, under}
-use lib.Pow.{field, mod-mod-pow, low, high, pow-lt}
-use Rattle.std.specs.List.{AllByRecursion as All}
-use Rattle.std.proofs.lemmas.Nat.{one_shl}
+use Rattle.std.proofs.Common.{◌≡◌, ℕ, zero, suc, ◌+◌, ◌-◌, ◌*◌, ◌/◌, ◌%◌, ◌^◌, ◌<◌, ◌≤◌, Bool, true, false, cond, eqb, List, [], ◌∷◌, length, get_or, set, bit_xor, sym, refl, ap, ◌∙◌, ap₂, inl, inr, true≢false, add-zero, mod-lt, zero-lt-suc, zero-add, arith, pow_pos, pow-add, shr-shr}
 use Rattle.std.proofs.ByRecursion.{All-from_get_or}
-use Rattle.std.proofs.lemmas.List.{get_or_past}
+use Rattle.std.proofs.Math.Pow.{field, mod-mod-pow, low, high, pow-lt}
 use Rattle.std.proofs.lemmas.Bool.{cases_lt, lt-ltb}
+use Rattle.std.proofs.lemmas.List.{get_or_past}
+use Rattle.std.proofs.lemmas.Nat.{xor_block, one_shl}
+use Rattle.std.specs.Int.Bits.{xor_zero_r}
+use Rattle.std.specs.Int.Count.{count_trailing_zeros, under}
+use Rattle.std.specs.List.{AllByRecursion as All}
 use Rattle.span.specs.Sets.{is_one, has, differs, Lowest}
 use Rattle.span.proofs.Bits.{has_xor, has_zero, has_half, has_first, has_pow, has_pow_other}
 use Rattle.gf2.specs.Masks.{Fit, value, width, toggled_in, PutIn}

@@ -1,14 +1,10 @@
 -- Laws of membership.
-use mathlib.Core.Path.{◌≡◌, refl, sym, ap, ap₂, subst, ◌∙◌}
-use mathlib.Core.Logic.{◌⊎◌, inl, inr}
-use mathlib.Core.Bool.{Bool, true, false, cond, true≢false}
-use Prim.Native.Nat.{ℕ, zero, suc, ◌+◌, ◌-◌, ◌/◌, ◌%◌, ◌^◌, ◌≤◌, ◌<◌}
-use native.Mathlib.Nat.{mod-lt, zero-lt-suc, zero-div, div-one, div_self, div-eq_of_lt, mul-mod_left, pow-suc, not-suc-le-zero}
-use native.Mathlib.Decide.{ℕ_discrete as dec_eq, dec_lt}
-use native.Mathlib.Omega.{arith}
-use lib.Bits.{bit_xor, bit_and, xor_shr, xor_mod, and_shr, and_mod}
-use lib.Arith.{bin_ind}
-use lib.Pow.{shr-shr, pow_pos, pow-lt, pow-add, shl-shr}
+use Rattle.std.proofs.Common.{◌≡◌, ℕ, zero, suc, ◌+◌, ◌-◌, ◌/◌, ◌%◌, ◌^◌, ◌<◌, ◌≤◌, Bool, true, false, cond, ◌⊎◌, bit_and, bit_xor, sym, refl, ap, ◌∙◌, subst, ap₂, inl, inr, true≢false, not-suc-le-zero, mod-lt, zero-lt-suc, pow-suc, div-one, arith, pow_pos, pow-add, shr-shr}
+use Rattle.std.proofs.Math.Arith.{bin_ind}
+use Rattle.std.proofs.Math.Decide.{ℕ_discrete as dec_eq, dec_lt}
+use Rattle.std.proofs.Math.Nat.{zero-div, div_self, div-eq_of_lt, mul-mod_left}
+use Rattle.std.proofs.Math.Pow.{pow-lt}
+use Rattle.std.proofs.lemmas.Nat.{xor_shr, xor_mod, and_shr, and_mod, shl-shr}
 use Rattle.span.specs.Sets.{is_one, has, differs, Lowest, Within}
 
 -- two digits

@@ -1,16 +1,10 @@
 -- Several blocks: each goes by its own entries.
-use mathlib.Core.Path.{◌≡◌, refl, sym, ap, subst, subst₂, ◌∙◌}
-use mathlib.Core.Logic.{◌⊎◌, inl, inr, ◌↔◌}
-use mathlib.Core.Bool.{Bool, true, false}
-use mathlib.Core.List.{List, [], ◌∷◌}
-use Prim.Native.Nat.{ℕ, ◌<◌}
-use lib.Dec.{T, eqb, eqb→eq, eqb_refl}
+use Rattle.std.proofs.Common.{◌≡◌, ℕ, ◌<◌, Bool, true, false, T, eqb, ◌⊎◌, ◌↔◌, List, [], ◌∷◌, sym, refl, ap, ◌∙◌, subst, subst₂, inl, inr, eqb→eq, eq-eqb, ne_eqb}
 use Rattle.span.specs.Kinds.{Member, SameEntries}
 use Rattle.span.specs.Echelon.{Row, put}
 use Rattle.span.specs.Fillings.{SatisfiesAll, Below, Solvable}
 use Rattle.span.specs.Held.{FitsAll, Held, IsTable}
 use Rattle.span.specs.Blocks.{Placed, of, SatisfiesEach, SolvableIn, HeldIn, FitsIn, BoundIn, IsTableIn}
-use Rattle.span.proofs.Bools.{T_true, not_T}
 use Rattle.span.proofs.Held.{held_solvable, solvable_none, bound_any_order, table_exists, table_same}
 
 -- an entry of the block's list is an entry of the whole list, with the block
@@ -30,7 +24,7 @@ member_of (y ∷ H) x (inl p) =
     subst (λ (t : Bool). Member x.1 (put t y.1 (of x.0 H))) (sym same) (inl (ap (λ (z : Placed). z.1) p))
   where
     same : eqb y.0 x.0 ≡ true
-    same = ap (λ (z : Placed). eqb y.0 z.0) p ∙ T_true (eqb y.0 y.0) (eqb_refl y.0)
+    same = ap (λ (z : Placed). eqb y.0 z.0) p ∙ eq-eqb y.0 y.0 refl
 member_of (y ∷ H) x (inr m) = go (eqb y.0 x.0) (member_of H x m)
   where
     go : (t : Bool) → Member x.1 (of x.0 H) → Member x.1 (put t y.1 (of x.0 H))
@@ -66,10 +60,10 @@ solvable_held w n E H held = held_solvable (SolvableIn w n) (solvable_in_none w 
 
 -- the block of an entry, and another block
 pub of_own : (x : Placed) (G : List Placed) → of x.0 (x ∷ G) ≡ x.1 ∷ of x.0 G
-of_own x G = ap (λ (t : Bool). put t x.1 (of x.0 G)) (T_true (eqb x.0 x.0) (eqb_refl x.0))
+of_own x G = ap (λ (t : Bool). put t x.1 (of x.0 G)) (eq-eqb x.0 x.0 refl)
 
 pub of_other : (x : Placed) (G : List Placed) (b : ℕ) → ¬ (x.0 ≡ b) → of b (x ∷ G) ≡ of b G
-of_other x G b ne = ap (λ (t : Bool). put t x.1 (of b G)) (not_T (eqb x.0 b) (λ t. ne (eqb→eq x.0 b t)))
+of_other x G b ne = ap (λ (t : Bool). put t x.1 (of b G)) (ne_eqb x.0 b ne)
 
 -- whether an entry can be taken is decided by its own block
 pub own_decides : (w n : ℕ) (H : List Placed) → SolvableIn w n H → (x : Placed) → SolvableIn w n (x ∷ H) ↔ Solvable w n (x.1 ∷ of x.0 H)

@@ -1,7 +1,5 @@
 -- Combinations: sums of some of the entries of a list, for every kind.
-use mathlib.Core.Path.{◌≡◌, refl, sym, ap, ap₂, subst, ◌∙◌}
-use mathlib.Core.Logic.{inl, inr}
-use mathlib.Core.List.{List, [], ◌∷◌}
+use Rattle.std.proofs.Common.{◌≡◌, List, [], ◌∷◌, sym, refl, ap, ◌∙◌, subst, ap₂, inl, inr}
 use Rattle.span.specs.Kinds.{Kind, Comb, Member}
 
 module _ {V : Type 0} (K : Kind V) where

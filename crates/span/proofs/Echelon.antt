@@ -1,11 +1,6 @@
 -- The rows of a state as a list, and the lead cell of a combination of rows.
-use mathlib.Core.Path.{◌≡◌, refl, sym, ap, subst, ◌∙◌}
-use mathlib.Core.Logic.{◌⊎◌, inl, inr}
-use mathlib.Core.Bool.{Bool, true, false, true≢false}
-use Prim.Native.Nat.{ℕ, zero, suc, ◌<◌}
-use native.Mathlib.Nat.{not-suc-le-zero}
-use native.Mathlib.Decide.{ℕ_discrete as dec_eq}
-use native.Mathlib.Omega.{arith}
+use Rattle.std.proofs.Common.{◌≡◌, ℕ, zero, suc, ◌<◌, Bool, true, false, ◌⊎◌, sym, refl, ap, ◌∙◌, subst, inl, inr, true≢false, not-suc-le-zero, arith}
+use Rattle.std.proofs.Math.Decide.{ℕ_discrete as dec_eq}
 use Rattle.span.specs.Lead.{Lead}
 use Rattle.span.specs.Kinds.{Kind, Comb, Member}
 use Rattle.span.specs.Echelon.{Row, rows, State, put, rows_of, Echelon, Clear}

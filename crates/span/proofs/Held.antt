@@ -1,10 +1,5 @@
 -- What is held after enterings has a state; its bound cells go by what was entered, and its table by what is held.
-use mathlib.Core.Path.{◌≡◌, refl, sym, ap, subst}
-use mathlib.Core.Logic.{inl, inr, ◌↔◌}
-use mathlib.Core.Bool.{false}
-use mathlib.Core.List.{List, [], ◌∷◌, map}
-use Prim.Native.Nat.{ℕ, ◌<◌}
-use lib.Pow.{pow_pos}
+use Rattle.std.proofs.Common.{◌≡◌, ℕ, ◌<◌, false, ◌↔◌, List, [], ◌∷◌, map, sym, refl, ap, subst, inl, inr, pow_pos}
 use Rattle.span.specs.Kinds.{numbers, SameSpan, Member, SameEntries}
 use Rattle.span.specs.Echelon.{Row, rows, State, Stands}
 use Rattle.span.specs.Fillings.{Below, Solvable}

@@ -1,11 +1,6 @@
 -- Laws of the lead cell: these alone look at which end of a set leads.
-use mathlib.Core.Path.{◌≡◌, sym, ◌∙◌}
-use mathlib.Core.Logic.{◌⊎◌, inl, inr}
-use mathlib.Core.Bool.{true, false, true≢false}
-use Prim.Native.Nat.{ℕ, ◌≤◌, ◌<◌}
-use native.Mathlib.Decide.{dec_lt}
-use native.Mathlib.Omega.{arith}
-use lib.Bits.{bit_xor}
+use Rattle.std.proofs.Common.{◌≡◌, ℕ, ◌<◌, ◌≤◌, true, false, ◌⊎◌, bit_xor, sym, ◌∙◌, inl, inr, true≢false, arith}
+use Rattle.std.proofs.Math.Decide.{dec_lt}
 use Rattle.span.specs.Sets.{has, Lowest, Within}
 use Rattle.span.specs.Lead.{Lead}
 use Rattle.span.proofs.Bits.{lowest_one, lowest_below, find_lowest, empty_or_lowest}

@@ -1,9 +1,5 @@
 -- A state seen through a map of its answers that keeps sums.
-use mathlib.Core.Path.{◌≡◌, refl, sym, ap, ap₂, subst, ◌∙◌}
-use mathlib.Core.Bool.{Bool, true, false}
-use mathlib.Core.List.{List, ◌∷◌, map}
-use Prim.Native.Nat.{ℕ, zero, suc}
-use lib.Bits.{bit_xor}
+use Rattle.std.proofs.Common.{◌≡◌, ℕ, zero, suc, Bool, true, false, List, ◌∷◌, map, bit_xor, sym, refl, ap, ◌∙◌, subst, ap₂}
 use Rattle.span.specs.Sets.{Within}
 use Rattle.span.specs.Lead.{Lead}
 use Rattle.span.specs.Kinds.{Kind, Comb}

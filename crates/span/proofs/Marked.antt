@@ -1,10 +1,7 @@
 -- One entry more, for every kind with words and marks: words alone, and words with slot sets, by one text.
-use mathlib.Core.Path.{◌≡◌, refl, sym, ap, ap₂, subst, ◌∙◌}
-use mathlib.Core.Bool.{false, true≢false}
-use mathlib.Core.List.{List, [], ◌∷◌, map}
-use lib.ListN.{length}
-use Prim.Native.Nat.{ℕ, suc, ◌≤◌, ◌<◌}
-use lib.Bits.{bit_xor, xor_zero_r, xor_self}
+use Rattle.std.proofs.Common.{◌≡◌, ℕ, suc, ◌<◌, ◌≤◌, false, List, [], ◌∷◌, map, length, bit_xor, sym, refl, ap, ◌∙◌, subst, ap₂, true≢false}
+use Rattle.std.proofs.lemmas.Bool.{false_from_ne_true}
+use Rattle.std.specs.Int.Bits.{xor_zero_r, xor_self}
 use Rattle.span.specs.Sets.{Within}
 use Rattle.span.specs.Lead.{Lead}
 use Rattle.span.specs.Kinds.{Kind, numbers, Comb, SameSpan}
@@ -13,7 +10,6 @@ use Rattle.span.specs.Held.{cells_of, CountBound}
 use Rattle.span.specs.Slots.{chosen, ConflictSet}
 use Rattle.span.specs.Marked.{Marks, lean_marks, Full, fulls, full_marks, word_row, word_state, bare_row, slot_row, slot_rows, StandsFor, NoSlots, Blames}
 use Rattle.span.specs.Theorems.{Decides, SlotsCountBound, NamesSlots}
-use Rattle.span.proofs.Bools.{not_true}
 use Rattle.span.proofs.Lead.{lead_has}
 use Rattle.span.proofs.Comb.{cancel, cancel_common}
 use Rattle.span.proofs.Maps.{Mapped, rows_map, added_map}
@@ -110,7 +106,7 @@ module _ {A : Type 0} {K : Kind A} (M : Marks K) where
     cell_below he p lead = within_lt n v.0 p (reduced_within K n S stands.0.0 (bare_row M e) v he r) (lead_has v.0 p lead)
 
     was_free : (p : ℕ) → p < n → Lead v.0 p → S.bound p ≡ false
-    was_free p pn lead = not_true (S.bound p) (λ q. true≢false (sym (lead_has v.0 p lead) ∙ r.1 p pn q))
+    was_free p pn lead = false_from_ne_true (S.bound p) (λ q. true≢false (sym (lead_has v.0 p lead) ∙ r.1 p pn q))
 
     -- cells left: the row goes to the lead cell, with the next slot marked
     pub marked_bind : Within n e.0 → (p : ℕ) → Lead v.0 p

@@ -1,8 +1,5 @@
 -- One list is held after a list of enterings, and one list stands in the slots of what is held.
-use mathlib.Core.Path.{◌≡◌, sym, subst, ◌∙◌}
-use mathlib.Core.Logic.{◌⊎◌, inl, inr}
-use mathlib.Core.List.{List, [], ◌∷◌}
-use Prim.Native.Nat.{ℕ}
+use Rattle.std.proofs.Common.{◌≡◌, ℕ, ◌⊎◌, List, [], ◌∷◌, sym, ◌∙◌, subst, inl, inr}
 use Rattle.span.specs.Echelon.{Row}
 use Rattle.span.specs.Held.{Binds, HeldBy, InSlots}
 

@@ -1,11 +1,7 @@
 -- Reduction: upward through the cells, adding the row of each bound cell that the set still holds.
-use mathlib.Core.Path.{◌≡◌, refl, sym, ap, ap₂, subst, ◌∙◌}
-use mathlib.Core.Bool.{Bool, true, false, true≢false}
-use Prim.Native.Nat.{ℕ, zero, suc, ◌≤◌, ◌<◌}
-use native.Mathlib.Nat.{not-suc-le-zero, le_refl}
-use native.Mathlib.Decide.{ℕ_discrete as dec_eq, dec_lt}
-use native.Mathlib.Omega.{arith}
-use lib.Bits.{bit_xor, xor_comm}
+use Rattle.std.proofs.Common.{◌≡◌, ℕ, zero, suc, ◌<◌, ◌≤◌, Bool, true, false, bit_xor, sym, refl, ap, ◌∙◌, subst, ap₂, true≢false, le_refl, not-suc-le-zero, arith}
+use Rattle.std.proofs.Math.Decide.{ℕ_discrete as dec_eq, dec_lt}
+use Rattle.std.proofs.lemmas.Nat.{xor_comm}
 use Rattle.span.specs.Sets.{has, differs}
 use Rattle.span.specs.Lead.{Lead}
 use Rattle.span.specs.Kinds.{Kind, Comb}

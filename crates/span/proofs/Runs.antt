@@ -1,11 +1,6 @@
 -- What is held has slots and a state, over any kind with marks.
-use mathlib.Core.Path.{◌≡◌, refl, sym, subst}
-use mathlib.Core.Logic.{◌⊎◌, inl, inr}
-use mathlib.Core.Bool.{false}
-use mathlib.Core.List.{List, [], ◌∷◌}
-use lib.ListN.{length}
-use Prim.Native.Nat.{ℕ}
-use native.Mathlib.Decide.{ℕ_discrete as dec_eq}
+use Rattle.std.proofs.Common.{◌≡◌, ℕ, false, ◌⊎◌, List, [], ◌∷◌, length, sym, refl, subst, inl, inr}
+use Rattle.std.proofs.Math.Decide.{ℕ_discrete as dec_eq}
 use Rattle.span.specs.Lead.{Lead}
 use Rattle.span.specs.Kinds.{Kind}
 use Rattle.span.specs.Echelon.{Row, rows, State, Reduces}

@@ -1,9 +1,6 @@
 -- What follows where a filling satisfies entries.
-use mathlib.Core.Path.{◌≡◌, ap, ap₂, ◌∙◌}
-use mathlib.Core.List.{List}
-use Prim.Native.Nat.{ℕ, ◌+◌, ◌*◌, ◌/◌, ◌%◌, ◌^◌, ◌<◌}
-use lib.Bits.{bit_xor}
-use lib.Pow.{high, low}
+use Rattle.std.proofs.Common.{◌≡◌, ℕ, ◌+◌, ◌*◌, ◌/◌, ◌%◌, ◌^◌, ◌<◌, List, bit_xor, ap, ◌∙◌, ap₂}
+use Rattle.std.proofs.Math.Pow.{high, low}
 use Rattle.span.specs.Kinds.{numbers, Comb}
 use Rattle.span.specs.Echelon.{Row, rows}
 use Rattle.span.specs.Fillings.{xor_over, Satisfies, SatisfiesAll}

@@ -1,13 +1,7 @@
 -- The slot set beside a row is the one set of slots that sums to it.
-use mathlib.Core.Path.{◌≡◌, refl, sym, ap, ap₂, subst, ◌∙◌}
-use mathlib.Core.Logic.{inl, inr}
-use mathlib.Core.Bool.{Bool, true, false, true≢false}
-use mathlib.Core.List.{List, [], ◌∷◌, map}
-use lib.ListN.{length}
-use Prim.Native.Nat.{ℕ, suc, ◌^◌, ◌≤◌, ◌<◌, zero-le}
-use native.Mathlib.Decide.{ℕ_discrete as dec_eq}
-use native.Mathlib.Omega.{arith}
-use lib.Bits.{bit_xor, xor_zero_r, xor_self}
+use Rattle.std.proofs.Common.{◌≡◌, ℕ, suc, ◌^◌, ◌<◌, ◌≤◌, Bool, true, false, List, [], ◌∷◌, map, length, bit_xor, sym, refl, ap, ◌∙◌, subst, ap₂, inl, inr, true≢false, zero-le, arith}
+use Rattle.std.proofs.Math.Decide.{ℕ_discrete as dec_eq}
+use Rattle.std.specs.Int.Bits.{xor_zero_r, xor_self}
 use Rattle.span.specs.Sets.{has, differs, Within}
 use Rattle.span.specs.Kinds.{numbers, Comb}
 use Rattle.span.specs.Echelon.{Row, rows}

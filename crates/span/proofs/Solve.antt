@@ -1,14 +1,8 @@
 -- When an entry can be taken: what it reduces to decides.
-use mathlib.Core.Path.{◌≡◌, refl, sym, ap, ap₂, subst, ◌∙◌}
-use mathlib.Core.Logic.{◌⊎◌, inl, inr}
-use mathlib.Core.Bool.{Bool, true, false, true≢false}
-use mathlib.Core.List.{List, [], ◌∷◌}
-use Prim.Native.Nat.{ℕ, ◌^◌, ◌<◌}
-use native.Mathlib.Decide.{ℕ_discrete as dec_eq}
-use lib.Bits.{bit_xor, xor_zero_r, xor_lt}
-use lib.Dec.{eqb, eqb→eq, eqb_refl}
-use lib.Pow.{pow_pos}
-use Rattle.span.proofs.Bools.{T_true, not_T}
+use Rattle.std.proofs.Common.{◌≡◌, ℕ, ◌^◌, ◌<◌, Bool, true, false, cond, eqb, ◌⊎◌, List, [], ◌∷◌, bit_xor, sym, refl, ap, ◌∙◌, subst, ap₂, inl, inr, true≢false, pow_pos, eq-eqb, ne_eqb}
+use Rattle.std.proofs.Math.Decide.{ℕ_discrete as dec_eq}
+use Rattle.std.proofs.lemmas.Nat.{xor_lt}
+use Rattle.std.specs.Int.Bits.{xor_zero_r}
 use Rattle.span.specs.Sets.{Within}
 use Rattle.span.specs.Lead.{Lead}
 use Rattle.span.specs.Kinds.{Kind, numbers, Comb}
@@ -25,28 +19,23 @@ use Rattle.span.proofs.Table.{table, table_rows, table_free, table_below, table_
 use Rattle.span.proofs.Step.{within_lt, reduced_within, step_bind, step_dependent}
 use Rattle.span.proofs.Bound.{cells_of_comb, bound_by, by_bound}
 
--- a choice by a test
-abbrev pub choose : {X : Type 0} → Bool → X → X → X
-choose true x y = x
-choose false x y = y
-
 -- the state with the row v at the cell p
 pub put_at : {A : Type 0} → State A → ℕ → Row A → State A
-put_at S p v = record { bound = λ c. choose (eqb c p) true (S.bound c); row = λ c. choose (eqb c p) v (S.row c) }
+put_at S p v = record { bound = λ c. cond (eqb c p) true (S.bound c); row = λ c. cond (eqb c p) v (S.row c) }
 
 -- it is such a state
 pub put_at_lem : {A : Type 0} (S : State A) (p : ℕ) (v : Row A) → Put S p v (put_at S p v)
 unfolding put_at
 put_at_lem {A} S p v = (
-  ap (λ (b : Bool). choose b true (S.bound p)) self,
-  ap (λ (b : Bool). choose b v (S.row p)) self,
+  ap (λ (b : Bool). cond b true (S.bound p)) self,
+  ap (λ (b : Bool). cond b v (S.row p)) self,
   λ c h.
-      let other : eqb c p ≡ false = not_T (eqb c p) (λ t. h (eqb→eq c p t)) in
-      (ap (λ (b : Bool). choose b true (S.bound c)) other, ap (λ (b : Bool). choose b v (S.row c)) other),
+      let other : eqb c p ≡ false = ne_eqb c p h in
+      (ap (λ (b : Bool). cond b true (S.bound c)) other, ap (λ (b : Bool). cond b v (S.row c)) other),
 )
   where
     self : eqb p p ≡ true
-    self = T_true (eqb p p) (eqb_refl p)
+    self = eq-eqb p p refl
 
 -- a state with no bound cell stands for no entries, whatever its rows hold
 pub start_stands : {A : Type 0} (K : Kind A) (n : ℕ) (S : State A) → ((c : ℕ) → c < n → S.bound c ≡ false) → Stands K n [] S

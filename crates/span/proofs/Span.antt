@@ -1,7 +1,5 @@
 -- Combinations carried along a map that keeps sums, and lists with the same combinations.
-use mathlib.Core.Path.{◌≡◌, refl, sym, ap, subst, ◌∙◌}
-use mathlib.Core.Logic.{inl, inr}
-use mathlib.Core.List.{List, [], ◌∷◌, map}
+use Rattle.std.proofs.Common.{◌≡◌, List, [], ◌∷◌, map, sym, refl, ap, ◌∙◌, subst, inl, inr}
 use Rattle.span.specs.Kinds.{Kind, Comb, SameSpan, Member, SameEntries}
 use Rattle.span.proofs.Comb.{cancel, comb_member, comb_trans}
 

@@ -1,10 +1,7 @@
 -- Substitution back from the last cell to the first.
-use mathlib.Core.Path.{◌≡◌, refl, sym, ap, ap₂, ◌∙◌}
-use mathlib.Core.Bool.{Bool, true, false, true≢false}
-use Prim.Native.Nat.{ℕ, ◌^◌, ◌≤◌, ◌<◌, zero-le}
-use native.Mathlib.Decide.{ℕ_discrete as dec_eq, dec_le}
-use native.Mathlib.Omega.{arith}
-use lib.Bits.{bit_xor, xor_comm}
+use Rattle.std.proofs.Common.{◌≡◌, ℕ, ◌^◌, ◌<◌, ◌≤◌, Bool, true, false, bit_xor, sym, refl, ap, ◌∙◌, ap₂, true≢false, zero-le, arith}
+use Rattle.std.proofs.Math.Decide.{ℕ_discrete as dec_eq, dec_le}
+use Rattle.std.proofs.lemmas.Nat.{xor_comm}
 use Rattle.span.specs.Sets.{has, differs}
 use Rattle.span.specs.Lead.{Lead}
 use Rattle.span.specs.Kinds.{numbers}

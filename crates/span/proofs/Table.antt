@@ -1,16 +1,9 @@
 -- The table of a state: the one filling that satisfies all rows and has zero in the free cells, made by substitution from the last cell down.
-use mathlib.Core.Path.{◌≡◌, refl, sym, ap, ◌∙◌}
-use mathlib.Core.Bool.{Bool, true, false, cond}
-use Prim.Native.Nat.{ℕ, zero, suc, ◌^◌, ◌≤◌, ◌<◌, zero-le}
-use native.Mathlib.Nat.{le_refl}
-use native.Mathlib.Decide.{ℕ_discrete as dec_eq}
-use native.Mathlib.Omega.{arith}
-use lib.Bits.{bit_xor, xor_lt}
-use lib.Dec.{eqb, eqb→eq, eqb_refl}
-use lib.Pow.{pow_pos}
+use Rattle.std.proofs.Common.{◌≡◌, ℕ, zero, suc, ◌^◌, ◌<◌, ◌≤◌, Bool, true, false, cond, eqb, bit_xor, sym, refl, ap, ◌∙◌, zero-le, le_refl, arith, pow_pos, eq-eqb, ne_eqb}
+use Rattle.std.proofs.Math.Decide.{ℕ_discrete as dec_eq}
+use Rattle.std.proofs.lemmas.Nat.{xor_lt}
 use Rattle.span.specs.Echelon.{State, Echelon}
 use Rattle.span.specs.Fillings.{pick, xor_over, Below, ZeroInFree, SatisfiesRows, substituted, SubstitutedFrom}
-use Rattle.span.proofs.Bools.{T_true, not_T}
 use Rattle.span.proofs.Xors.{xor_over_lt}
 use Rattle.span.proofs.Substitute.{substituted_same, goes_down, solves}
 
@@ -19,10 +12,10 @@ abbrev pub written : (ℕ → ℕ) → ℕ → ℕ → ℕ → ℕ
 written f k x c = cond (eqb c k) x (f c)
 
 written_at : (f : ℕ → ℕ) (k x : ℕ) → written f k x k ≡ x
-written_at f k x = ap (λ (b : Bool). cond b x (f k)) (T_true (eqb k k) (eqb_refl k))
+written_at f k x = ap (λ (b : Bool). cond b x (f k)) (eq-eqb k k refl)
 
 written_other : (f : ℕ → ℕ) (k x c : ℕ) → ¬ (c ≡ k) → written f k x c ≡ f c
-written_other f k x c ne = ap (λ (b : Bool). cond b x (f c)) (not_T (eqb c k) (λ t. ne (eqb→eq c k t)))
+written_other f k x c ne = ap (λ (b : Bool). cond b x (f c)) (ne_eqb c k ne)
 
 module _ (n : ℕ) (S : State ℕ) where
   -- the cells below k, the last first

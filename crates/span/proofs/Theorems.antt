@@ -1,7 +1,5 @@
 -- The theorems, put together from the lemmas.
-use mathlib.Core.Path.{◌≡◌, sym, subst}
-use mathlib.Core.List.{List}
-use Prim.Native.Nat.{ℕ}
+use Rattle.std.proofs.Common.{◌≡◌, ℕ, List, sym, subst}
 use Rattle.span.specs.Kinds.{Kind}
 use Rattle.span.specs.Echelon.{Row, Reduces}
 use Rattle.span.specs.Fillings.{Below, Solvable}

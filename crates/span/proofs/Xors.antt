@@ -1,12 +1,8 @@
 -- Laws of the XOR of words over a set of cells.
-use mathlib.Core.Path.{◌≡◌, refl, sym, ap, ap₂, ◌∙◌}
-use mathlib.Core.Bool.{Bool, true, false}
-use Prim.Native.Nat.{ℕ, zero, suc, ◌^◌, ◌<◌}
-use native.Mathlib.Nat.{not-suc-le-zero}
-use native.Mathlib.Decide.{ℕ_discrete as dec_eq}
-use native.Mathlib.Omega.{arith}
-use lib.Bits.{bit_xor, xor_zero_r, xor_self, xor_assoc, xor_comm, xor_lt}
-use lib.Pow.{pow_pos}
+use Rattle.std.proofs.Common.{◌≡◌, ℕ, zero, suc, ◌^◌, ◌<◌, Bool, true, false, bit_xor, sym, refl, ap, ◌∙◌, ap₂, not-suc-le-zero, arith, pow_pos}
+use Rattle.std.proofs.Math.Decide.{ℕ_discrete as dec_eq}
+use Rattle.std.proofs.lemmas.Nat.{xor_comm, xor_lt}
+use Rattle.std.specs.Int.Bits.{xor_zero_r, xor_self, xor_assoc}
 use Rattle.span.specs.Sets.{has, differs}
 use Rattle.span.specs.Kinds.{numbers}
 use Rattle.span.specs.Fillings.{pick, xor_over, Below}

@@ -13,6 +13,7 @@ pub trait AnswerKind: Sized {
 }
 
 // A theorem about every answer kind with words and marks is about every one of these.
+// No bound of `AnswerKind`, since `marks` would then name a bound's member, which makes it a law, and no clause can name a law.
 pub trait MarkedKind: Sized {
     ghost Value: { Type 0 };
 

@@ -1,5 +1,5 @@
 use Rattle.std.proofs.Common.{true, false, sym, ◌∙◌}
-use lib.Bits.{xor_zero_r}
+use Rattle.std.specs.Int.Bits.{xor_zero_r}
 use Rattle.span.proofs.Xors.{xor_over_none}
 use Rattle.gf2.specs.Fills.{word_at}
 use Rattle.gf2.specs.Masks.{mask}

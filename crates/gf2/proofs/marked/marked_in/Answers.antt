@@ -1,5 +1,5 @@
 use Rattle.std.proofs.Common.{◌^◌, cond, ltb, ap, ◌∙◌}
-use lib.Bits.{xor_comm}
+use Rattle.std.proofs.lemmas.Nat.{xor_comm}
 use Rattle.gf2.specs.Masks.{width, mask}
 use Rattle.gf2.proofs.marked.marked_in.Goals as goal
 
