@@ -1,13 +1,16 @@
 -- The number that words stand for: membership and XOR go word by word, for any number of words.
-use Rattle.std.proofs.Common.{◌≡◌, ℕ, zero, suc, ◌+◌, ◌-◌, ◌*◌, ◌/◌, ◌%◌, ◌^◌, ◌<◌, ◌≤◌, Bool, true, false, cond, eqb, List, [], ◌∷◌, length, get_or, set, bit_xor, sym, refl, ap, ◌∙◌, ap₂, inl, inr, true≢false, add-zero, mod-lt, zero-lt-suc, zero-add, arith, pow_pos, pow-add, shr-shr}
+use Rattle.std.proofs.Common.{◌≡◌, ℕ, zero, suc, ◌+◌, ◌-◌, ◌*◌, ◌/◌, ◌%◌, ◌^◌, ◌<◌, ◌≤◌, Bool, true, false, cond, eqb, List, [], ◌∷◌, length, get_or, set, bit_xor, sym, refl, ap, ◌∙◌, subst, ap₂, inl, inr, true≢false, MatchBool, zero-le, add-zero, mod-lt, zero-lt-suc, zero-add, arith, pow_pos, pow-add, shr-shr}
 use Rattle.std.proofs.ByRecursion.{All-from_get_or}
 use Rattle.std.proofs.Math.Pow.{field, mod-mod-pow, low, high, pow-lt}
-use Rattle.std.proofs.lemmas.Bool.{cases_lt, lt-ltb}
+use Rattle.std.proofs.lemmas.Bool.{cases_lt, cases_eq, lt-ltb}
 use Rattle.std.proofs.lemmas.List.{get_or_past}
 use Rattle.std.proofs.lemmas.Nat.{xor_block, one_shl}
 use Rattle.std.specs.Int.Bits.{xor_zero_r}
 use Rattle.std.specs.Int.Count.{count_trailing_zeros, under}
-use Rattle.std.specs.List.{AllByRecursion as All}
+use Rattle.std.specs.List.{AllByRecursion as All, AllWithin, HoldsAt}
+use Rattle.std.specs.Array.{IsFromFnResultFrom, IsFromFnResult}
+use Rattle.std.specs.Fn.{Called}
+use denote.Param.Members.{Mut}
 use Rattle.span.specs.Sets.{is_one, has, differs, Lowest}
 use Rattle.span.proofs.Bits.{has_xor, has_zero, has_half, has_first, has_pow, has_pow_other}
 use Rattle.gf2.specs.Masks.{Fit, value, width, toggled_in, PutIn}
@@ -191,7 +194,27 @@ words_zero [] z i = refl
 words_zero (w ∷ ws) z zero = omega arith
 words_zero (w ∷ ws) z (suc i) = words_zero ws (omega arith) i
 
+-- what the test of each word says of the number
+pub zero_words : (ws : List ℕ) (r : Bool) → MatchBool r (AllWithin (λ x. x ≡ 0) ws 0 (length ws)) ((k : ℕ) × (k < length ws) × HoldsAt (λ x. 0 < x) ws k)
+    → (r ≡ true → value ws ≡ 0) × (value ws ≡ 0 → r ≡ true)
+zero_words ws true all = (λ _. no_words ws (λ k h. all k 0 zero-le h), λ _. refl)
+zero_words ws false (k, h, one) = (λ e. absurd (true≢false (sym e)), λ z. absurd (omega (arith, one 0, words_zero ws z k)))
+
 -- ---- the symmetric difference
+
+-- what a closure that answers h made, from the i-th place on
+made_from : {F : Type 0} (g : Mut F (ℕ × Unit {0}) ℕ) (f : F) (h : ℕ → ℕ) → ((i y : ℕ) (q : F) → Called g f (i, tt) y q → (q ≡ f) × (y ≡ h i))
+    → (ys : List ℕ) (i n : ℕ) → IsFromFnResultFrom g f ys i n → (k : ℕ) → i ≤ k → k < i + n → get_or ys k 0 ≡ h k
+made_from g f h gives ys i zero made k low high = absurd (omega arith)
+made_from {F} g f h gives ys i (suc n) (q, y, here, call, rest) k low high = elim (cases_eq i k) [
+  | inl e ↦ subst (λ (j : ℕ). get_or ys j 0 ≡ h j) e (here.1 0 ∙ (gives i y q call).1)
+  | inr ne ↦ made_from g f h gives ys (i + 1) n (subst (λ (p : F). IsFromFnResultFrom g p ys (i + 1) n) (gives i y q call).0 rest) k (omega arith) (omega arith)
+]
+
+-- what `from_fn` makes of it
+pub made_by : {F : Type 0} {g : Mut F (ℕ × Unit {0}) ℕ} {f : F} {ys : List ℕ} {n : ℕ} (h : ℕ → ℕ) → IsFromFnResult g f ys n
+    → ((i y : ℕ) (q : F) → Called g f (i, tt) y q → (q ≡ f) × (y ≡ h i)) → (k : ℕ) → k < n → get_or ys k 0 ≡ h k
+made_by {g = g} {f = f} {ys = ys} {n = n} h made gives k l = made_from g f h gives ys 0 n made.each k zero-le (omega arith)
 
 pub xor_words : (xs ys zs : List ℕ) → Fit xs → Fit ys → length ys ≡ length xs → length zs ≡ length xs
     → ((i : ℕ) → i < length xs → get_or zs i 0 ≡ bit_xor (get_or xs i 0) (get_or ys i 0)) → value zs ≡ bit_xor (value xs) (value ys)

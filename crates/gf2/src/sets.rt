@@ -2,13 +2,15 @@
 ghost use Rattle.std.specs.Prelude.{◌≡◌, ◌*◌, ◌≤◌, true, length, MatchOption, bit_xor};
 ghost use Rattle.span.specs.Lead.{Lead};
 ghost use Rattle.span.specs.Sets.{has, Lowest};
-ghost use Rattle.gf2.specs.Masks.{width, value, mask, toggled_in, NoneCommon, FirstCommon, Fit};
+ghost use Rattle.gf2.specs.Masks.{width, value, mask, toggled_in, NoneCommon, FirstCommon};
+
+use std::array;
 
 // The words of a set: the one place that says how wide a set is.
 pub const WORDS: usize = 4;
 
 // A set of cells below 64 × WORDS: cell c is bit c mod 64, from the low end, of word c div 64.
-#[derive(Clone, Copy)]
+#[derive(Clone, Copy, PartialEq, Eq, Debug)]
 pub struct CellSet {
     words: [u64; WORDS],
 }
@@ -67,11 +69,11 @@ impl CellSet {
     }
 
     // The lead cell of the set, if it has a cell: here the code says which end leads.
+    #[tactic(auto, using(span::proofs::Lead::lead_of_lowest))]
     pub fn lead(self) -> Option<usize>
         ensures { MatchOption result (mask self ≡ 0) (Lead (mask self)) }
     {
-        let words = self.words;
-        lowest(&words)
+        self.lowest()
     }
 
     // The first cell from `from` on that is in both sets.
@@ -85,9 +87,9 @@ impl CellSet {
     pub fn symmetric_difference(self, other: CellSet) -> CellSet
         ensures { mask result ≡ bit_xor (mask self) (mask other) }
     {
-        let mut words = self.words;
-        xor(&mut words, &other.words);
-        CellSet { words }
+        CellSet {
+            words: xor(&self.words, &other.words),
+        }
     }
 }
 
@@ -100,7 +102,7 @@ impl From<[u64; WORDS]> for CellSet {
     }
 }
 
-// ---- bits in a run of words of any length, the low word first
+// ---- bits in a run of words, the low word first
 
 // The bits of a word.
 const BITS: usize = 64;
@@ -116,25 +118,17 @@ fn toggle(words: &mut [u64], c: usize)
 
 // Whether bit c is 1.
 fn contains(words: &[u64], c: usize) -> bool
-    requires { Fit words.now }
     ensures { result ≡ has (value words.now) c }
 {
     c / BITS < words.len() && (words[c / BITS] >> (c % BITS)) % 2 == 1
 }
 
-// The lowest bit that is 1: it leads.
-fn lowest(words: &[u64]) -> Option<usize>
-    requires few { length words.now ≤ 65536 }
-    requires fit { Fit words.now }
-    ensures least { MatchOption result (value words.now ≡ 0) (Lowest (value words.now)) }
-    ensures leads { MatchOption result (value words.now ≡ 0) (Lead (value words.now)) }
+// The lowest bit that is 1.
+fn lowest(words: &[u64; WORDS]) -> Option<usize>
+    ensures { MatchOption result (value words.now ≡ 0) (Lowest (value words.now)) }
 {
-    for (i, word) in words.iter().enumerate() {
-        if *word != 0 {
-            return Some(BITS * i + word.trailing_zeros() as usize);
-        }
-    }
-    None
+    let i = words.iter().position(|word| *word != 0)?;
+    Some(BITS * i + words[i].trailing_zeros() as usize)
 }
 
 // Whether no bit is 1.
@@ -142,41 +136,27 @@ fn is_zero(words: &[u64]) -> bool
     ensures yes { result ≡ true → value words.now ≡ 0 }
     ensures only { value words.now ≡ 0 → result ≡ true }
 {
-    for i in 0..words.len() {
-        if words[i] != 0 {
-            return false;
-        }
-    }
-    true
+    words.iter().all(|word| *word == 0)
 }
 
 // The first bit from c on that is 1 in both, found word by word.
-fn first_common(words: &[u64], others: &[u64], c: usize) -> Option<usize>
-    requires few { length words.now ≤ 65536 }
-    requires long { length others.now ≡ length words.now }
-    requires fit { Fit words.now }
-    requires fits { Fit others.now }
-    ensures { MatchOption result (NoneCommon (value words.now) (value others.now) c) (FirstCommon (64 * length words.now) (value words.now) (value others.now) c) }
+fn first_common(words: &[u64; WORDS], others: &[u64; WORDS], c: usize) -> Option<usize>
+    ensures { MatchOption result (NoneCommon (value words.now) (value others.now) c) (FirstCommon width (value words.now) (value others.now) c) }
 {
-    let mut at = c;
-    while at / BITS < words.len() {
-        let common = (words[at / BITS] & others[at / BITS]) >> (at % BITS);
+    for (i, (word, other)) in words.iter().zip(others).enumerate().skip(c / BITS) {
+        // Bits below c are shifted out.
+        let from = c.saturating_sub(BITS * i);
+        let common = (word & other) >> from;
         if common != 0 {
-            return Some(at + common.trailing_zeros() as usize);
+            return Some(BITS * i + from + common.trailing_zeros() as usize);
         }
-        at = (at / BITS + 1) * BITS;
     }
     None
 }
 
-// XORs the other words into these, word by word.
-fn xor(words: &mut [u64], others: &[u64])
-    requires long { length others.now ≡ length words.old }
-    requires fit { Fit words.old }
-    requires fits { Fit others.now }
-    ensures { value words.new ≡ bit_xor (value words.old) (value others.now) }
+// The words of the bits that are 1 in exactly one of the two.
+fn xor(words: &[u64; WORDS], others: &[u64; WORDS]) -> [u64; WORDS]
+    ensures { value result ≡ bit_xor (value words.now) (value others.now) }
 {
-    for i in 0..words.len() {
-        words[i] ^= others[i];
-    }
+    array::from_fn(|i| words[i] ^ others[i])
 }

@@ -1,10 +1,11 @@
-use Rattle.std.proofs.Common.{sym, refl, true≢false, arith}
-use Rattle.gf2.proofs.Values.{no_words, words_zero}
+use Rattle.std.proofs.Common.{◌≡◌, ◌<◌, rules, tests}
+use Rattle.std.proofs.lemmas.Iterator.{cases_from_all, YieldsList-from_slice}
+use Rattle.gf2.proofs.Values.{zero_words}
 use Rattle.gf2.proofs.sets.is_zero.Goals as goal
 
-pub returns-then-words-i-ne0 : goal.returns-then-words-i-ne0
-returns-then-words-i-ne0 c =
-    record { yes = λ e. absurd (true≢false (sym e)); only = λ z. absurd (c.if-words-i-ne0.true (words_zero c.args.words.now z c.loop-i.i)) }
-
 pub returns : goal.returns
-returns c = record { yes = λ e. no_words c.args.words.now (λ k h. c.loop-i.invariant k (omega arith)); only = λ z. refl }
+returns c =
+    let test = zero_words c.args.words.now c.all.result
+    (cases_from_all _ _ _ (λ x. x ≡ 0) (λ x. 0 < x) c.all.ensures.ran (YieldsList-from_slice c.args.words.now cc)
+    (λ x q k. search (rules, tests)) (λ x q k. search (rules, tests))) in
+    record { yes = test.0; only = test.1 }
