@@ -1,7 +1,8 @@
 -- Drawn cells: one draw more, the numbers that a clause goes by, and the cells drawn an odd number of times.
-use Rattle.std.proofs.Common.{◌≡◌, ℕ, zero, suc, ◌+◌, ◌%◌, ◌^◌, ◌<◌, Bool, true, false, cond, eqb, List, [], ◌∷◌, ◌++◌, get_or, sym, refl, ap, ◌∙◌, ap₂, inl, inr, add-one, arith}
+use Rattle.std.proofs.Common.{◌≡◌, ℕ, zero, suc, ◌+◌, ◌%◌, ◌^◌, ◌<◌, Bool, true, false, cond, eqb, List, [], ◌∷◌, ◌++◌, get_or, sym, refl, ap, ◌∙◌, ap₂, inl, inr, add-one, arith, length, length-append, take, ◌≤◌, length-take-le}
 use lib.Bits.{bit_xor}
 use Rattle.std.proofs.lemmas.Bool.{lt-ltb, cases_eq, eq-eqb, ne_eqb}
+use Rattle.std.proofs.lemmas.List.{get_or_push, get_or_append_left, get_or-take}
 use Rattle.span.specs.Sets.{is_one, has, differs}
 use Rattle.span.proofs.Bits.{has_zero, has_xor, has_pow, has_pow_other}
 use Rattle.gf2.specs.Masks.{width, toggled_in}
@@ -20,6 +21,25 @@ drawn_same : (v w : ℕ → ℕ) (k : ℕ) → ((i : ℕ) → i < k → v i ≡ 
 drawn_same v w zero same = refl
 drawn_same v w (suc k) same =
     ap₂ bit_xor (drawn_same v w k (λ i h. same i (omega arith))) (ap (λ (d : ℕ). 2 ^ d) (same k (omega arith)))
+
+-- the cells drawn by all of a list
+abbrev pub drawn_by : ℕ → List ℕ → ℕ
+drawn_by n ys = drawn (λ i. get_or ys i 0 % n) (length ys)
+
+pub drawn_push : (n : ℕ) (ys : List ℕ) (x m m' : ℕ) → x % n < width → m ≡ drawn_by n ys → m' ≡ toggled_in width m (x % n) → m' ≡ drawn_by n (ys ++ x ∷ [])
+drawn_push n ys x m m' below e is =
+    let draw : ℕ → ℕ = λ i. get_or (ys ++ x ∷ []) i 0 % n in
+    let here : draw (length ys) ≡ x % n = ap (λ (y : ℕ). y % n) (get_or_push ys x 0 (length ys) refl) in
+    let before : m ≡ drawn draw (length ys) =
+    e ∙ drawn_same _ draw (length ys) (λ i h. ap (λ (y : ℕ). y % n) (sym (get_or_append_left ys (x ∷ []) 0 i h))) in
+    let long : length ys + 1 ≡ length (ys ++ x ∷ []) = omega (arith, length-append ys (x ∷ [])) in
+    drawn_more draw (length ys) m m' (rw here below) before (rw here is) ∙ ap (drawn draw) long
+
+pub drawn_by_take : (n k : ℕ) (words : List ℕ) → k ≤ length words → drawn_by n (take k words) ≡ drawn (λ i. get_or words i 0 % n) k
+drawn_by_take n k words long =
+    let draw : ℕ → ℕ = λ i. get_or (take k words) i 0 % n in
+    ap (drawn draw) (length-take-le k words long)
+    ∙ drawn_same draw _ k (λ i h. ap (λ (y : ℕ). y % n) (get_or-take k words i 0 h))
 
 -- a clause goes by the first k + 2 numbers of its row
 pub clause_of_same : (d : Dims) (v w : ℕ → ℕ) → ((i : ℕ) → i < d.k + 2 → v i ≡ w i) → clause_of d v ≡ clause_of d w

@@ -61,9 +61,8 @@ fn deeper(e: Refusal) -> Refusal
     ensures { result ≡ deeper_of e }
 {
     Refusal {
-        reason: e.reason,
-        place: e.place,
         depth: e.depth.saturating_add(1),
+        ..e
     }
 }
 

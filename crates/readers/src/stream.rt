@@ -91,8 +91,8 @@ fn first_words(seed: u64) -> [u64; ROW]
 {
     let mut source = SplitMix::new(seed);
     let mut words = [0; ROW];
-    for i in 0..ROW {
-        words[i] = source.next_word();
+    for word in &mut words {
+        *word = source.next_word();
     }
     words
 }

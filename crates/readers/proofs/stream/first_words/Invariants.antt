@@ -2,8 +2,7 @@ use Rattle.std.proofs.Common.{◌≡◌, ℕ, ◌<◌, length, get_or}
 use Rattle.readers.specs.Stream.{state, word}
 use Rattle.readers.proofs.stream.first_words.Given as goal
 
-abbrev pub invariant-loop-i : goal.invariant-loop-i
-invariant-loop-i l =
-    (length l.words ≡ 10)
-    × (l.source.state ≡ state l.seed l.i)
-    × ((k : ℕ) → k < l.i → get_or l.words k 0 ≡ word l.seed k)
+abbrev pub invariant-loop-word : goal.invariant-loop-word
+invariant-loop-word l =
+    (l.source.state ≡ state l.seed l.word-index)
+    × ((k : ℕ) → k < l.word-index → get_or l.word-items k 0 ≡ word l.seed k)
