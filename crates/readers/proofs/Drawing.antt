@@ -1,6 +1,5 @@
 -- Drawn cells: one draw more, the numbers that a clause goes by, and the cells drawn an odd number of times.
-use Rattle.std.proofs.Common.{◌≡◌, ℕ, zero, suc, ◌+◌, ◌%◌, ◌^◌, ◌<◌, Bool, true, false, cond, eqb, List, [], ◌∷◌, ◌++◌, get_or, sym, refl, ap, ◌∙◌, ap₂, inl, inr, add-one, arith, length, length-append, take, ◌≤◌, length-take-le}
-use lib.Bits.{bit_xor}
+use Rattle.std.proofs.Common.{◌≡◌, ℕ, zero, suc, ◌+◌, ◌%◌, ◌^◌, ◌<◌, Bool, true, false, cond, eqb, List, [], ◌∷◌, ◌++◌, get_or, sym, refl, ap, ◌∙◌, ap₂, inl, inr, add-one, arith, bit_xor, length, length-append, take, ◌≤◌, length-take-le}
 use Rattle.std.proofs.lemmas.Bool.{lt-ltb, cases_eq, eq-eqb, ne_eqb}
 use Rattle.std.proofs.lemmas.List.{get_or_push, get_or_append_left, get_or-take}
 use Rattle.span.specs.Sets.{is_one, has, differs}
@@ -10,7 +9,7 @@ use Rattle.readers.specs.Draws.{drawn, clause_of, times, OddDraws}
 use Rattle.shapes.specs.declared.shape.Dims.{Dims}
 
 -- one draw more, below the width of a set
-pub drawn_more : (draw : ℕ → ℕ) (i m m' : ℕ) → draw i < width → m ≡ drawn draw i → m' ≡ toggled_in width m (draw i) → m' ≡ drawn draw (i + 1)
+drawn_more : (draw : ℕ → ℕ) (i m m' : ℕ) → draw i < width → m ≡ drawn draw i → m' ≡ toggled_in width m (draw i) → m' ≡ drawn draw (i + 1)
 drawn_more draw i m m' below e is =
     is
     ∙ ap (λ (t : Bool). cond t (bit_xor m (2 ^ draw i)) m) (lt-ltb (draw i) width below)

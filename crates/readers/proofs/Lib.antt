@@ -1,4 +1,2 @@
-pub mod Replies
 pub mod Drawing
 pub mod Hashing
-pub mod Folding

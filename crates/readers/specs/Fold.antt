@@ -1,6 +1,7 @@
 -- The fold layer: spaces and hyphens are dropped and letters become capitals before a key is handed below.
-use Rattle.std.specs.Prelude.{◌≡◌, ℕ, ◌+◌, ◌-◌, min, Bool, true, false, cond, ◌&&◌, ◌||◌, List, [], ◌∷◌, length, Ok, Err, Result, ◌==◌, nat_le, nat_lt}
+use Rattle.std.specs.Prelude.{◌≡◌, ℕ, ◌+◌, ◌-◌, min, Bool, true, false, cond, ◌&&◌, ◌||◌, not, List, length, map, filter, Ok, Err, Result, ◌==◌, nat_le, nat_lt}
 use Rattle.std.proofs.Common.{arith}
+use Rattle.std.specs.List.{position_or_len}
 use Rattle.std.specs.Result.{result_map_both}
 use Rattle.shapes.specs.Limits.{InLimits}
 use Rattle.readers.specs.Meaning.{Meaning, Clause, Formed, refusal, reply, reply_formed}
@@ -13,8 +14,7 @@ printable b = nat_le 0x20 b && nat_le b 0x7E
 
 -- The position of the first byte that is not printable, or the length where all are.
 abbrev pub unprintable_at : List ℕ → ℕ
-unprintable_at [] = 0
-unprintable_at (b ∷ bs) = cond (printable b) (1 + unprintable_at bs) 0
+unprintable_at = position_or_len (λ b. not (printable b))
 
 -- Spaces and hyphens.
 abbrev pub dropped : ℕ → Bool
@@ -26,8 +26,7 @@ capital b = cond (nat_le 0x61 b && nat_le b 0x7A) (b - 0x20) b
 
 -- The key as it is handed below.
 abbrev pub folded : List ℕ → List ℕ
-folded [] = []
-folded (b ∷ bs) = cond (dropped b) (folded bs) (capital b ∷ folded bs)
+folded key = map capital (filter (λ b. not (dropped b)) key)
 
 -- A refusal from below, one layer further up: the depth counts to 255.
 abbrev pub deeper : Refusal → Refusal

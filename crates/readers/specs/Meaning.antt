@@ -6,6 +6,8 @@ use Rattle.span.specs.Sets.{Within}
 use Rattle.gf2.specs.Masks.{mask}
 use Rattle.shapes.specs.Limits.{InLimits}
 use Rattle.readers.specs.declared.clause.Clause.{Clause as CodeClause}
+use Rattle.readers.specs.declared.reader.Reason.{Reason}
+use Rattle.readers.specs.declared.reader.Reason.TheVariants.{NotRead, WrongLength, Unprintable}
 use Rattle.shapes.specs.declared.fault.Refusal.{Refusal}
 use Rattle.shapes.specs.declared.fault.Caller.{Caller}
 use Rattle.shapes.specs.declared.fault.Fault.{Fault}
@@ -38,9 +40,19 @@ most_key = 64
 abbrev pub refusal : ℕ → ℕ → ℕ → Refusal
 refusal reason place depth = record { reason = reason; place = place; depth = depth }
 
+-- The reasons of the library's own readers as numbers.
+abbrev pub number : Reason → ℕ
+number NotRead = 0
+number WrongLength = 1
+number Unprintable = 2
+
+-- Whether a reader of this meaning looks at the key at all: it admits the shape, and the key is not too long.
+abbrev pub readable : Meaning → Dims → List ℕ → Bool
+readable m d key = m.admits d && nat_le (length key) most_key
+
 -- What a reader of this meaning tells. A shape that it does not admit, and a longer key, give reason 0, place 0, depth 0.
 abbrev pub reply : Meaning → Dims → List ℕ → Result Clause Refusal
-reply m d key = cond (m.admits d && nat_le (length key) most_key) (m.gives d key) (Err (refusal 0 0 0))
+reply m d key = cond (readable m d key) (m.gives d key) (Err (refusal 0 0 0))
 
 told : (m : Meaning) (d : Dims) (key : List ℕ) (c : Clause) (a b : Bool) → cond (a && b) (m.gives d key) (Err (refusal 0 0 0)) ≡ Ok c
     → (a ≡ true) × (m.gives d key ≡ Ok c)

@@ -1,64 +1,49 @@
 // The fold layer: drops spaces and hyphens and turns letters into capitals, and hands the rest to the reader below.
-ghost use Rattle.std.specs.Prelude.{◌≡◌, ◌<◌, ◌≤◌, length, take, MatchResult};
-ghost use Rattle.readers.specs.Meaning.{refusal};
-ghost use Rattle.readers.specs.Fold.{unprintable_at, folded, capital as capital_of, deeper as deeper_of, fold_meaning};
+ghost use Rattle.std.specs.Prelude.{◌≡◌, ◌≤◌, length, not, position};
+ghost use Rattle.readers.specs.Meaning.{most_key};
+ghost use Rattle.readers.specs.Fold.{printable, folded, capital, deeper, fold_meaning};
 
 use crate::clause::Clause;
-use crate::reader::{MOST_KEY, NOT_READ, Reader};
+use crate::reader::{MOST_KEY, Reader, Reason};
+use arrayvec::ArrayVec;
 use shapes::fault::Refusal;
 use shapes::shape::Shape;
-
-// The printable bytes of ASCII.
-const FIRST: u8 = 0x20;
-
-const LAST: u8 = 0x7E;
-
-// The bytes that are dropped.
-const SPACE: u8 = 0x20;
-
-const HYPHEN: u8 = 0x2D;
-
-// How far a capital lies below its small letter.
-const CASE: u8 = 0x20;
-
-// The key has a byte that is not printable.
-const UNPRINTABLE: u16 = 2;
 
 // The layer over a reader.
 #[derive(Clone, Copy)]
 pub struct Fold<R>(pub R);
 
-fn capital(b: u8) -> u8
-    ensures { result ≡ capital_of b }
+// The position of the first byte that is not printable, if there is one.
+fn unprintable(key: &[u8]) -> Option<usize>
+    ensures { result ≡ position (λ b. not (printable b)) key.now }
 {
-    if b >= b'a' && b <= b'z' { b - CASE } else { b }
+    key.iter().position(|b| !matches!(*b, b' '..=b'~'))
 }
 
-// Writes the key as the reader below gets it, and answers its length; or refuses the first byte that is not printable.
-fn fold_key(key: &[u8], out: &mut [u8; MOST_KEY]) -> Result<usize, Refusal>
-    requires { length key.now ≤ 64 }
-    ensures { MatchResult result (λ n. (n ≤ 64) × (unprintable_at key.now ≡ length key.now) × (take n out.new ≡ folded key.now)) (λ e. (unprintable_at key.now < length key.now) × (e ≡ refusal 2 (unprintable_at key.now) 0)) }
+// The byte as the reader below gets it.
+fn capital(b: u8) -> u8
+    ensures { result ≡ capital b }
 {
-    let mut n = 0;
-    for (i, b) in key.iter().enumerate() {
-        if *b < FIRST || *b > LAST {
-            return Err(Refusal {
-                reason: UNPRINTABLE,
-                place: i as u32,
-                depth: 0,
-            });
-        }
-        if *b != SPACE && *b != HYPHEN {
-            out[n] = capital(*b);
-            n += 1;
+    b.to_ascii_uppercase()
+}
+
+// The key as the reader below gets it.
+fn folded(key: &[u8]) -> ArrayVec<u8, MOST_KEY>
+    requires { length key.now ≤ most_key }
+    ensures { result.items ≡ folded key.now }
+{
+    let mut kept = ArrayVec::new();
+    for b in key {
+        if !matches!(*b, b' ' | b'-') {
+            kept.push(capital(*b));
         }
     }
-    Ok(n)
+    kept
 }
 
 // A refusal from below, one layer further up.
 fn deeper(e: Refusal) -> Refusal
-    ensures { result ≡ deeper_of e }
+    ensures { result ≡ deeper e }
 {
     Refusal {
         depth: e.depth.saturating_add(1),
@@ -74,14 +59,10 @@ impl<R: Reader> Reader for Fold<R> {
     }
 
     fn read(&self, shape: &Shape, key: &[u8]) -> Result<Clause, Refusal> {
-        if !self.0.admits(shape) || key.len() > MOST_KEY {
-            return Err(NOT_READ);
+        self.may_read(shape, key)?;
+        if let Some(place) = unprintable(key) {
+            return Err(Reason::Unprintable.at(place as u32));
         }
-        let mut bytes = [0; MOST_KEY];
-        let n = fold_key(key, &mut bytes)?;
-        match self.0.read(shape, &bytes[0..n]) {
-            Ok(clause) => Ok(clause),
-            Err(e) => Err(deeper(e)),
-        }
+        self.0.read(shape, &folded(key)).map_err(deeper)
     }
 }

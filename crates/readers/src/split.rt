@@ -7,7 +7,7 @@ ghost use Rattle.readers.specs.Split.{digits, digit, split_meaning};
 use crate::clause::Clause;
 use crate::draws;
 use crate::draws::ROW;
-use crate::reader::{MOST_KEY, NOT_READ, Reader};
+use crate::reader::{Reader, Reason};
 use shapes::fault::Refusal;
 use shapes::shape::Shape;
 
@@ -20,35 +20,34 @@ const MOST_CHECK_BITS: u16 = 4;
 
 const MOST_BLOCKS: u16 = 16;
 
-// The key has another length than four bytes.
-const WRONG_LENGTH: u16 = 1;
-
 #[derive(Clone, Copy)]
 pub struct Split;
 
 // The eight digits of four bytes, the high digit of each first, in a row that has room for two numbers more.
-fn digit_row(a: u8, b: u8, c: u8, d: u8) -> [u64; ROW]
-    ensures { result ≡ digits (a ∷ b ∷ c ∷ d ∷ []) ++ 0 ∷ 0 ∷ [] }
+fn digit_row(bytes: &[u8; 4]) -> [u64; ROW]
+    ensures { result ≡ digits bytes.now ++ 0 ∷ 0 ∷ [] }
 {
+    let [a, b, c, d] = *bytes;
     [
-        (a / 16) as u64,
-        (a % 16) as u64,
-        (b / 16) as u64,
-        (b % 16) as u64,
-        (c / 16) as u64,
-        (c % 16) as u64,
-        (d / 16) as u64,
-        (d % 16) as u64,
+        a / 16,
+        a % 16,
+        b / 16,
+        b % 16,
+        c / 16,
+        c % 16,
+        d / 16,
+        d % 16,
         0,
         0,
     ]
+    .map(u64::from)
 }
 
 // The clause of four bytes.
-fn clause_of_digits(shape: &Shape, a: u8, b: u8, c: u8, d: u8) -> Clause
-    ensures { clause_meant result ≡ clause_of shape.now.dims (digit (a ∷ b ∷ c ∷ d ∷ [])) }
+fn clause_of_digits(shape: &Shape, bytes: &[u8; 4]) -> Clause
+    ensures { clause_meant result ≡ clause_of shape.now.dims (digit bytes.now) }
 {
-    draws::clause_of(shape, &digit_row(a, b, c, d))
+    draws::clause_of(shape, &digit_row(bytes))
 }
 
 impl Reader for Split {
@@ -63,16 +62,10 @@ impl Reader for Split {
     }
 
     fn read(&self, shape: &Shape, key: &[u8]) -> Result<Clause, Refusal> {
-        if !self.admits(shape) || key.len() > MOST_KEY {
-            return Err(NOT_READ);
-        }
-        let [a, b, c, d] = key else {
-            return Err(Refusal {
-                reason: WRONG_LENGTH,
-                place: key.len() as u32,
-                depth: 0,
-            });
+        self.may_read(shape, key)?;
+        let Ok(bytes) = <&[u8; 4]>::try_from(key) else {
+            return Err(Reason::WrongLength.at(key.len() as u32));
         };
-        Ok(clause_of_digits(shape, *a, *b, *c, *d))
+        Ok(clause_of_digits(shape, bytes))
     }
 }

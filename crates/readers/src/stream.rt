@@ -7,7 +7,7 @@ ghost use Rattle.readers.specs.Stream.{fnv_step, fnv_from, fnv, FnvRule, advance
 use crate::clause::Clause;
 use crate::draws;
 use crate::draws::ROW;
-use crate::reader::{MOST_KEY, NOT_READ, Reader};
+use crate::reader::Reader;
 use shapes::fault::Refusal;
 use shapes::shape::Shape;
 
@@ -30,7 +30,7 @@ pub fn fnv1a(key: &[u8]) -> u64
     hash(OFFSET_BASIS, key)
 }
 
-// The hash of a key from a basis, by that of the key without its last byte.
+// The hash of a key from a basis, by that of the key without its last byte: this form was asked for (docs/DECISIONS.md).
 fn hash(basis: u64, key: &[u8]) -> u64
     ensures { result ≡ fnv_from basis key.now }
 {
@@ -52,7 +52,7 @@ pub fn fnv_rule()
     ensures { FnvRule }
 {}
 
-// The generator SplitMix64.
+// The generator SplitMix64. It is no `Iterator`: what is written through `iter_mut().zip(..)` is not known afterwards.
 #[derive(Clone, Copy)]
 pub struct SplitMix {
     state: u64,
@@ -119,9 +119,7 @@ impl Reader for Stream {
     }
 
     fn read(&self, shape: &Shape, key: &[u8]) -> Result<Clause, Refusal> {
-        if key.len() > MOST_KEY {
-            return Err(NOT_READ);
-        }
+        self.may_read(shape, key)?;
         Ok(clause_from(shape, fnv1a(key).wrapping_add(self.salt)))
     }
 }

@@ -1,11 +1,7 @@
-use Rattle.std.proofs.Common.{◌-◌, length, get_or, sym, ap, ◌∙◌, rules}
-use Rattle.std.proofs.lemmas.List.{nil_from_length}
-use Rattle.readers.specs.Stream.{fnv_step, fnv_from}
+use Rattle.std.proofs.Common.{◌-◌, length, get_or, ap, ◌∙◌, rules}
+use Rattle.readers.specs.Stream.{fnv_step}
 use Rattle.readers.proofs.Hashing.{fnv_from_last}
 use Rattle.readers.proofs.stream.+hash.Goals as goal
-
-pub returns-in-empty : goal.returns-in-empty
-returns-in-empty t c = sym (ap (fnv_from c.args.basis) (nil_from_length c.args.key.now (search rules)))
 
 pub returns-in-len1-up : goal.returns-in-len1-up
 returns-in-len1-up t c =
