@@ -33,7 +33,7 @@ module _ {K : Type 0} (view : K → Full) (marks : Marks fulls) where
           stands = none_stand marks (dims_of d).n (block_state view d b) (λ c _. ap (λ m. has m c) (blank.none b few).1 ∙ has_zero c);
           count = (blank.none b few).0;
         };
-    notes = blank.lengths;
+    notes = blank.all;
   }
 
   -- what a draft holds can be satisfied at once
@@ -57,7 +57,7 @@ module _ {K : Type 0} (view : K → Full) (marks : Marks fulls) where
       → (x : Placed) → x.0 < (dims_of d).b → Fits (answer_bits (dims_of d)) (dims_of d).n x.1
       → BlockStands view marks d' x.0 (x.1 ∷ of x.0 H)
       → ((b : ℕ) → b < (dims_of d).b → ¬ (x.0 ≡ b) → BlockStands view marks d' b (of b H))
-      → (length d'.tally.slots ≡ most_blocks) × (length d'.tally.bound ≡ most_blocks)
+      → length d'.tally.blocks ≡ most_blocks
       → Stands view marks d' (x ∷ H)
   stands_cons d d' shape H st x h fit own others notes = record {
     fits = λ y m. fits y m;

@@ -26,12 +26,13 @@ use Rattle.shapes.specs.declared.fault.Fault.TheVariants.{Conflict}
 use Rattle.shapes.proofs.Limits.{shape_limits}
 use Rattle.drafts.specs.Entries.{answer_bits}
 use Rattle.drafts.specs.Outcomes.{dependent, Together}
-use Rattle.drafts.specs.Standing.{dims_of, records_of, cells_at, block_at, block_state, BlockStands, Stands}
+use Rattle.drafts.specs.Standing.{dims_of, records_of, noted_at, block_at, block_state, BlockStands, Stands}
 use Rattle.drafts.specs.Entering.{OnlyBlock, Holds}
 use Rattle.drafts.specs.Steps.{Within, Sorted, Puts, Judges}
 use Rattle.drafts.specs.declared.draft.enter.Verdict.{Verdict}
 use Rattle.drafts.specs.declared.draft.enter.Verdict.TheVariants as verdict
 use Rattle.drafts.specs.declared.draft.Draft.{Draft}
+use Rattle.drafts.specs.declared.tally.Noted.{Noted}
 use Rattle.drafts.proofs.Standing.{stands_together, stands_cons}
 use Rattle.drafts.proofs.Only.{only_same, blocks_disjoint, same_outside}
 
@@ -120,13 +121,20 @@ module _ {K A : Type 0} (mean : K → A) (kind : Kind A) (view : K → Full) (se
     abbrev records' : List (Record K)
     records' = puts.rows.records.now
 
+    abbrev noted : Noted
+    noted = record { slots = min (slot + 1) 65535; bound = puts.bound }
+
     -- the draft with the row put in it
     abbrev after : Draft K
     after = record {
       shape = d.shape;
       rows = puts.rows;
-      tally = record { slots = set d.tally.slots b (min (slot + 1) 65535); bound = set d.tally.bound b puts.bound };
+      tally = record { blocks = set d.tally.blocks b noted };
     }
+
+    -- of every other block the same is noted
+    others : (c : ℕ) → ¬ (c ≡ b) → noted_at after.tally c ≡ noted_at d.tally c
+    others c ne = get_or-set_other d.tally.blocks b c noted _ ne
 
     bind : BindingIn view fulls (records_of d) (block_at d b) made records' (mask puts.bound)
     bind = record {
@@ -169,30 +177,28 @@ module _ {K A : Type 0} (mean : K → A) (kind : Kind A) (view : K → Full) (se
       -- the entry's own block
       own_block : BlockStands view marks after b (e ∷ of b H)
       own_block =
-          let few : b < length d.tally.bound = omega (arith, st.notes.1, within.block, (shape_limits d.shape).b_high) in
-          let few' : b < length d.tally.slots = omega (arith, st.notes.0, within.block, (shape_limits d.shape).b_high) in
-          let noted : cells_at after.tally b ≡ puts.bound = get_or-set_same d.tally.bound b puts.bound _ few in
+          let few : b < length d.tally.blocks = omega (arith, st.notes, within.block, (shape_limits d.shape).b_high) in
+          let own : noted_at after.tally b ≡ noted = get_or-set_same d.tally.blocks b noted _ few in
           let counted : min (slot + 1) 65535 ≡ suc (length (L H st)) = omega (arith, slot_is, led.room, (shape_limits d.shape).n_high) in
           record {
             in_slots = e ∷ L H st;
             are = (L H st, (B H st).are, inl (led.binds, refl));
-            stands = subst (λ (s : CellSet). StandsFor marks n (e ∷ of b H) (e ∷ L H st) (state_of view fulls records' (b * n) (mask s))) (sym noted) led.stands;
-            count = get_or-set_same d.tally.slots b (min (slot + 1) 65535) 0 few' ∙ counted;
+            stands = subst (λ (s : CellSet). StandsFor marks n (e ∷ of b H) (e ∷ L H st) (state_of view fulls records' (b * n) (mask s))) (sym (ap (λ t. t.bound) own)) led.stands;
+            count = ap (λ t. t.slots) own ∙ counted;
           }
 
       -- every other block
       other_block : (c : ℕ) → c < (dims_of d).b → ¬ (b ≡ c) → BlockStands view marks after c (of c H)
       other_block c hc ne =
           let C = st.blocks c hc in
-          let ne' : ¬ (c ≡ b) = λ p. ne (sym p) in
-          let noted : cells_at after.tally c ≡ cells_at d.tally c = get_or-set_other d.tally.bound b c puts.bound _ ne' in
+          let same : noted_at after.tally c ≡ noted_at d.tally c = others c (λ p. ne (sym p)) in
           let stays = others_stay view fulls (records_of d) (block_at d b) made records' (mask puts.bound) bind (block_at d c) (blocks_disjoint d b c ne) in
           record {
             in_slots = C.in_slots;
             are = C.are;
-            stands = subst (λ (s : CellSet). StandsFor marks n (of c H) C.in_slots (state_of view fulls records' (c * n) (mask s))) (sym noted)
+            stands = subst (λ (s : CellSet). StandsFor marks n (of c H) C.in_slots (state_of view fulls records' (c * n) (mask s))) (sym (ap (λ t. t.bound) same))
                 (same_rows_stand marks n (of c H) C.in_slots (block_state view d c) (block_of view fulls records' (block_at d c)) stays C.stands);
-            count = get_or-set_other d.tally.slots b c (min (slot + 1) 65535) 0 ne' ∙ C.count;
+            count = ap (λ t. t.slots) same ∙ C.count;
           }
 
     only_block : OnlyBlock d b after
@@ -204,10 +210,7 @@ module _ {K A : Type 0} (mean : K → A) (kind : Kind A) (view : K → Full) (se
           rows = out.rows;
           before = out.before;
           after = subst (λ (j : ℕ). drop j records' ≡ drop j (records_of d)) past out.after;
-          notes = λ c ne. (
-            get_or-set_other d.tally.slots b c (min (slot + 1) 65535) 0 ne,
-            ap mask (get_or-set_other d.tally.bound b c puts.bound _ ne),
-          );
+          notes = λ c ne. (ap (λ t. t.slots) (others c ne), ap (λ t. mask t.bound) (others c ne));
         }
 
     -- cells are left
@@ -215,7 +218,7 @@ module _ {K A : Type 0} (mean : K → A) (kind : Kind A) (view : K → Full) (se
     binds_holds = subst (Holds view marks blame d x (Ok (b, slot))) (sym puts.is) (record {
       answered = λ H st. inl ((led H st).together, inl ((led H st).binds, (L H st, (B H st).are, ap (λ (j : ℕ). Ok (b, j)) (slot_is H st))));
       held = λ H st _. stands_cons view marks d after refl H st x within.block within.fits (own_block H st) (other_block H st)
-          (length-set d.tally.slots b _ ∙ st.notes.0, length-set d.tally.bound b _ ∙ st.notes.1);
+          (length-set d.tally.blocks b noted ∙ st.notes);
       refused = λ f p. let z : ◌≡◌ {A = ℕ} 0 1 = cc in absurd (omega arith);
       only = only_block;
     })

@@ -1,5 +1,5 @@
 -- What a draft's rows and tally have to do with the entries that it holds.
-use Rattle.std.specs.Prelude.{◌≡◌, ℕ, ◌*◌, ◌<◌, List, [], length, slice_index, slice_index_or}
+use Rattle.std.specs.Prelude.{◌≡◌, ℕ, ◌*◌, ◌<◌, List, [], length, slice_index_or}
 use Rattle.span.specs.Kinds.{Member}
 use Rattle.span.specs.Echelon.{Row, State}
 use Rattle.span.specs.Held.{InSlots}
@@ -14,15 +14,20 @@ use Rattle.shapes.specs.Limits.{most_blocks}
 use Rattle.shapes.specs.declared.shape.Dims.{Dims}
 use Rattle.drafts.specs.Entries.{answer_bits}
 use Rattle.drafts.specs.declared.draft.Draft.{Draft}
+use Rattle.drafts.specs.declared.tally.Noted.{Noted}
 use Rattle.drafts.specs.declared.tally.Tally.{Tally}
 
--- The slots that block b has, by the tally; past the last block there are none.
-abbrev pub slots_at : Tally → ℕ → ℕ
-slots_at t b = slice_index t.slots b
+-- What the tally notes of block b; past the last block, nothing.
+abbrev pub noted_at : Tally → ℕ → Noted
+noted_at t b = slice_index_or t.blocks b (record { slots = 0; bound = record { words = [] } })
 
--- The bound cells of block b, by the tally, as the code has them; past the last block there are none.
+-- The slots that block b has, by the tally.
+abbrev pub slots_at : Tally → ℕ → ℕ
+slots_at t b = (noted_at t b).slots
+
+-- The bound cells of block b, by the tally, as the code has them.
 abbrev pub cells_at : Tally → ℕ → CellSet
-cells_at t b = slice_index_or t.bound b (record { words = [] })
+cells_at t b = (noted_at t b).bound
 
 -- The same as a cell set.
 abbrev pub bound_at : Tally → ℕ → ℕ
@@ -30,7 +35,7 @@ bound_at t b = mask (cells_at t b)
 
 -- Nothing is noted of any block.
 pub record Blank (t : Tally) : Type 0 where
-  pub lengths : (length t.slots ≡ most_blocks) × (length t.bound ≡ most_blocks)
+  pub all : length t.blocks ≡ most_blocks
   pub none : (b : ℕ) → b < most_blocks → (slots_at t b ≡ 0) × (bound_at t b ≡ 0)
 
 -- A draft's five numbers.
@@ -66,4 +71,4 @@ pub record Stands {K : Type 0} (view : K → Full) (marks : Marks fulls) (d : Dr
   pub below : (x : Placed) → Member x H → x.0 < (dims_of d).b
   pub blocks : (b : ℕ) → b < (dims_of d).b → BlockStands view marks d b (of b H)
   -- The tally has a place for each block that a shape can have.
-  pub notes : (length d.tally.slots ≡ most_blocks) × (length d.tally.bound ≡ most_blocks)
+  pub notes : length d.tally.blocks ≡ most_blocks

@@ -56,7 +56,7 @@ pub record Puts {K A : Type 0} (mean : K → A) (kind : Kind A) (view : K → Fu
   pub rows : Rows K
   pub bound : CellSet
   pub bind : BindingIn mean kind (records_of d) (block_at d b) (record { cells = row.cells; answer = answer }) rows.records.now (mask bound)
-  pub is : d' ≡ record { shape = d.shape; rows = rows; tally = record { slots = slice_set d.tally.slots b (min (slot + 1) 65535); bound = slice_set d.tally.bound b bound } }
+  pub is : d' ≡ record { shape = d.shape; rows = rows; tally = record { blocks = slice_set d.tally.blocks b (record { slots = min (slot + 1) 65535; bound = bound }) } }
 
 -- What is done by the verdict on the entry x is what is to be done with x.
 abbrev pub Judges : {K A : Type 0} → (K → A) → Kind A → (K → Full) → Marks fulls → Blame → Draft K → Placed → Verdict K → Type 0

@@ -48,7 +48,7 @@ impl<K: Marked> Draft<'_, K> {
         Block {
             start: at * n,
             n,
-            bound: self.tally.bound[at],
+            bound: self.tally.blocks[at].bound,
         }
     }
 }

@@ -1,4 +1,4 @@
-// What a draft notes of each block.
+// What a draft notes of its blocks.
 ghost use Rattle.drafts.specs.Standing.{Blank};
 
 use gf2::sets::CellSet;
@@ -6,11 +6,17 @@ use gf2::sets::CellSet;
 // Room for the most blocks that a shape can have.
 const BLOCKS: usize = 64;
 
-// Each block's number of slots taken, and its bound cells.
+// What is noted of one block: the number of slots taken, and the bound cells.
+#[derive(Clone, Copy)]
+pub struct Noted {
+    pub slots: u16,
+    pub bound: CellSet,
+}
+
+// What is noted of each block.
 #[derive(Clone, Copy)]
 pub struct Tally {
-    pub slots: [u16; BLOCKS],
-    pub bound: [CellSet; BLOCKS],
+    pub blocks: [Noted; BLOCKS],
 }
 
 impl Tally {
@@ -18,9 +24,12 @@ impl Tally {
     pub fn empty() -> Tally
         ensures { Blank result }
     {
+        let none = Noted {
+            slots: 0,
+            bound: CellSet::empty(),
+        };
         Tally {
-            slots: [0; BLOCKS],
-            bound: [CellSet::empty(); BLOCKS],
+            blocks: [none; BLOCKS],
         }
     }
 }

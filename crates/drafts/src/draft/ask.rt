@@ -46,7 +46,9 @@ impl<K: Marked> Draft<'_, K> {
         requires cell { cell < (dims_of self.now).n }
         ensures { BoundInDraft K.Marked.view K.Marked.marks self.now block cell result }
     {
-        self.tally.bound[block as usize].contains(cell as usize)
+        self.tally.blocks[block as usize]
+            .bound
+            .contains(cell as usize)
     }
 
     // The block's slots: it has as many as bound cells.
@@ -54,6 +56,6 @@ impl<K: Marked> Draft<'_, K> {
         requires { block < (dims_of self.now).b }
         ensures { CountInDraft K.Marked.view K.Marked.marks self.now block result }
     {
-        self.tally.slots[block as usize]
+        self.tally.blocks[block as usize].slots
     }
 }

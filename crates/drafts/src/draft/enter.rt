@@ -8,6 +8,7 @@ ghost use Rattle.drafts.specs.Steps.{placed, Within, Sorted, Judges, Puts};
 
 use crate::draft::Draft;
 use crate::entry::Entry;
+use crate::tally::Noted;
 use gf2::marked::Marked;
 use gf2::row::Row;
 use readers::reader::{Reader, clause_for};
@@ -92,14 +93,16 @@ impl<K: Marked> Draft<'_, K> {
         ensures lent { self.new.rows.records.ghost_name ≡ self.old.rows.records.ghost_name }
     {
         let at = block as usize;
-        let slot = self.tally.slots[at];
+        let slot = self.tally.blocks[at].slots;
         let made = Row {
             cells: row.cells,
             answer: row.answer.marked(slot as usize),
         };
         let place = self.block(at);
-        self.tally.bound[at] = self.rows.bind(place, made);
-        self.tally.slots[at] = slot.saturating_add(1);
+        self.tally.blocks[at] = Noted {
+            slots: slot.saturating_add(1),
+            bound: self.rows.bind(place, made),
+        };
         slot
     }
 }

@@ -1,10 +1,13 @@
-use Rattle.std.proofs.Common.{ℕ, ap, ◌∙◌}
+use Rattle.std.proofs.Common.{ap, ◌∙◌}
 use Rattle.std.proofs.lemmas.Simd.{length-replicate, get_or-replicate}
 use Rattle.gf2.specs.Masks.{mask}
+use Rattle.drafts.specs.declared.tally.Noted.{Noted}
 use Rattle.drafts.proofs.tally.Tally.empty.Goals as goal
 
 pub returns : goal.returns
-returns c = record {
-  lengths = (length-replicate {A = ℕ} 64 0, length-replicate 64 c.empty.result);
-  none = λ b h. (get_or-replicate {A = ℕ} 64 b 0 0 h, ap mask (get_or-replicate 64 b c.empty.result _ h) ∙ c.empty.ensures);
-}
+returns c =
+    let none : Noted = record { slots = 0; bound = c.empty.result } in
+    record {
+      all = length-replicate 64 none;
+      none = λ b h. let own = get_or-replicate 64 b none _ h in (ap (λ t. t.slots) own, ap (λ t. mask t.bound) own ∙ c.empty.ensures);
+    }
