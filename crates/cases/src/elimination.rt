@@ -6,7 +6,6 @@ mod tests {
     use gf2::row::{Block, Row};
     use gf2::rows::Rows;
     use gf2::sets::CellSet;
-    use gf2::sizes;
     use std::test::Fail;
 
     // The cells of "cat", "fish", "dog" and 01200000, and check × 4 + notice of the first three.
@@ -88,7 +87,11 @@ mod tests {
         let mut records = [old::<Word>(); 4];
         let bound = published(&mut records);
         let mut words = [7; 4];
-        assert!(rt; Rows::over(&mut records).fill(block(bound), &mut words));
+        assert!(rt;
+            Rows::over(&mut records)
+                .fill(block(bound), &mut words)
+                .is_ok()
+        );
         assert_eq!(rt; words, [25, 0, 26, 9]);
         assert!(rt; !bound.contains(1));
     }
@@ -98,7 +101,11 @@ mod tests {
         let mut records = [old::<Pair<Word, CellSet>>(); 4];
         let bound = published(&mut records);
         let mut words = [7; 4];
-        assert!(rt; Rows::over(&mut records).fill(block(bound), &mut words));
+        assert!(rt;
+            Rows::over(&mut records)
+                .fill(block(bound), &mut words)
+                .is_ok()
+        );
         assert_eq!(rt; words, [25, 0, 26, 9]);
     }
 
@@ -119,7 +126,7 @@ mod tests {
         assert_eq!(rt; contradicts.answer.word(), 3);
         let slots = contradicts.answer.slots();
         assert!(rt; slots.contains(0) && slots.contains(1) && slots.contains(2));
-        assert!(rt; slots.symmetric_difference(set(&DEPENDENT)).is_empty());
+        assert_eq!(rt; slots, set(&DEPENDENT));
         Ok(())
     }
 
@@ -128,13 +135,17 @@ mod tests {
         let mut records = [old::<Word>(); 3];
         assert!(rt; left(&mut records, CellSet::empty(), &CAT, 16).is_none());
         let mut words = [7; 4];
-        assert!(rt; !Rows::over(&mut records).fill(block(CellSet::empty()), &mut words));
+        assert!(rt;
+            Rows::over(&mut records)
+                .fill(block(CellSet::empty()), &mut words)
+                .is_err()
+        );
         assert_eq!(rt; words, [7; 4]);
     }
 
     #[test]
     fn bytes_of_a_row(rt: HostRuntime) {
-        assert_eq!(rt; sizes::lean_row(), 40);
-        assert_eq!(rt; sizes::full_row(), 72);
+        assert_eq!(rt; Word::row_size(), 40);
+        assert_eq!(rt; Pair::<Word, CellSet>::row_size(), 72);
     }
 }

@@ -1,10 +1,11 @@
 -- Reading out the words of a block.
-use Rattle.std.specs.Prelude.{◌≡◌, ℕ, ◌<◌, ◌≤◌, Bool, true, false, List, length, bit_xor, slice_index}
+use Rattle.std.specs.Prelude.{◌≡◌, ℕ, ◌<◌, ◌≤◌, List, length, bit_xor, slice_index, Result, IsOk, OnOk, OnErr}
 use Rattle.span.specs.Echelon.{State, Echelon}
 use Rattle.span.specs.Fillings.{xor_over, SatisfiesRows, ZeroInFree, substituted}
 use Rattle.span.specs.Marked.{Full, fulls, Marks, word_state}
 use Rattle.gf2.specs.Masks.{mask}
 use Rattle.gf2.specs.Rows.{block_of, There}
+use Rattle.gf2.specs.declared.elimination.rows.Misfit.{Misfit}
 use Rattle.gf2.specs.declared.kinds.Word.{Word}
 use Rattle.gf2.specs.declared.row.Row.{Row as Record}
 use Rattle.gf2.specs.declared.row.Block.{Block}
@@ -35,10 +36,10 @@ pub record Filling {K : Type 0} (view : K → Full) (marks : Marks fulls) (recor
   pub rows : Echelon block.n (words_of view marks records block) → SatisfiesRows block.n (words_of view marks records block) (word_at words)
   pub free : ZeroInFree block.n (words_of view marks records block) (word_at words)
 
--- They are written where the block's rows are all there and there are as many words as cells; otherwise nothing is.
-pub record FillingIn {K : Type 0} (view : K → Full) (marks : Marks fulls) (records : List (Record K)) (block : Block) (words : List ℕ) (r : Bool) (words' : List ℕ)
-    : Type 0 where
-  pub taken : There records block → length words ≡ block.n → r ≡ true
-  pub only : r ≡ true → There records block × (length words ≡ block.n)
-  pub filled : r ≡ true → Filling view marks records block words'
-  pub kept : r ≡ false → words' ≡ words
+-- They are written where the block's rows are all there and there are as many words as cells; otherwise it is refused, and nothing is written.
+pub record FillingIn {K : Type 0} (view : K → Full) (marks : Marks fulls) (records : List (Record K)) (block : Block) (words : List ℕ)
+    (r : Result (Unit {0}) Misfit) (words' : List ℕ) : Type 0 where
+  pub taken : There records block → length words ≡ block.n → IsOk r
+  pub only : OnOk r (There records block × (length words ≡ block.n))
+  pub filled : OnOk r (Filling view marks records block words')
+  pub kept : OnErr r (words' ≡ words)

@@ -60,7 +60,7 @@ impl<K: Marked> Draft<'_, K> {
         requires size { length cells.old ≡ (dims_of self.now).n * width (dims_of self.now) }
         ensures { BlockWords K.Marked.view K.Marked.marks self.now at cells.new }
     {
-        self.rows.fill(self.block(at), words);
+        self.rows.fill(self.block(at), words).unwrap();
         store::put_words(&self.shape, words, cells);
     }
 }

@@ -10,6 +10,10 @@ use crate::marked::Marked;
 use crate::row::{Block, Row};
 use crate::sets::CellSet;
 
+// Refused: the block's rows are not all there, or there are not as many words as cells.
+#[derive(Clone, Copy, PartialEq, Eq, Debug)]
+pub struct Misfit;
+
 // A slice of rows, for one kind of answer. Each call works on one block of it.
 #[derive(Drop)]
 pub struct Rows<'a, K> {
@@ -70,15 +74,15 @@ impl<'a, K: Marked> Rows<'a, K> {
     }
 
     // Writes a word for each cell of the block: those that satisfy every bound row, with zero in the free cells.
-    // Refused, with nothing written, where the block's rows are not all there or there are not as many words as cells.
-    pub fn fill(&self, block: Block, words: &mut [u64]) -> bool
+    // Where it is refused, nothing is written.
+    pub fn fill(&self, block: Block, words: &mut [u64]) -> Result<(), Misfit>
         ensures { FillingIn K.Marked.view K.Marked.marks self.now.records.now block words.old result words.new }
     {
         if is_there(self.len(), block) && words.len() == block.n {
             elimination::fill(self.records, block, words);
-            true
+            Ok(())
         } else {
-            false
+            Err(Misfit)
         }
     }
 }
