@@ -1,5 +1,5 @@
 -- The words of the blocks, one after another, as bytes; and the table that they make up.
-use Rattle.std.proofs.Common.{◌≡◌, ℕ, ◌+◌, ◌-◌, ◌*◌, ◌<◌, ◌≤◌, Bool, List, [], ◌∷◌, ◌++◌, length, take, drop, Ok, Result, IsOk, sym, refl, ap, ◌∙◌, subst, append_assoc, mul-le-mul_right, mul_assoc, add-mul, one-mul, arith, length-append}
+use Rattle.std.proofs.Common.{◌≡◌, ℕ, ◌+◌, ◌-◌, ◌*◌, ◌<◌, ◌≤◌, List, [], ◌∷◌, ◌++◌, length, take, drop, Ok, Result, IsOk, sym, refl, ap, ◌∙◌, subst, append_assoc, mul-le-mul_right, mul_assoc, add-mul, one-mul, arith, length-append}
 use native.Mathlib.Decide.{dec_le}
 use borrow.Rule.Slice.PartMut.{put_mid}
 use Rattle.std.specs.List.{flat_map}
@@ -12,6 +12,7 @@ use Rattle.gf2.specs.declared.elimination.rows.Misfit.{Misfit}
 use Rattle.gf2.specs.declared.row.Block.{Block}
 use Rattle.table.specs.Sizes.{width, cells_length}
 use Rattle.table.specs.Images.{bytes_of, Stored}
+use Rattle.table.specs.declared.store.WrongLength.{WrongLength}
 use Rattle.table.proofs.Blocks.{block_end}
 use Rattle.table.proofs.Bytes.{length_joined}
 use Rattle.table.proofs.Stores.{stored_is}
@@ -46,7 +47,7 @@ module _ {K : Type 0} (view : K → Full) (marks : Marks fulls) (d : Draft K) wh
   pub block_words : (b : ℕ) (block : Block) → block ≡ block_at d b
       → (words words' : List ℕ) (r : Result (Unit {0}) Misfit) (x : Unit {0}) → length words ≡ n → length words' ≡ length words
       → FillingIn view marks (records_of d) block words r words' → r ≡ Ok x
-      → (cells : List ℕ) (t : Bool) (cells' : List ℕ) → length cells ≡ n * w → Stored (flat_map (bytes_of w) words') cells t cells'
+      → (cells : List ℕ) (t : Result (Unit {0}) WrongLength) (cells' : List ℕ) → length cells ≡ n * w → Stored (flat_map (bytes_of w) words') cells t cells'
       → BlockWords view marks d b cells'
   block_words b block is words words' r x long kept fills done cells t cells' room stored =
       let fills' : FillingIn view marks (records_of d) (block_at d b) words r words' = subst (λ (k : Block). FillingIn view marks (records_of d) k words r words') is fills in

@@ -1,7 +1,9 @@
 -- Words as bytes and back.
-use Rattle.std.proofs.Common.{◌≡◌, ℕ, zero, suc, ◌+◌, ◌*◌, ◌/◌, ◌%◌, ◌^◌, ◌<◌, ◌≤◌, List, [], ◌∷◌, ◌++◌, length, get_or, take, drop, sym, refl, ap, ◌∙◌, subst, suc-mul, pow-suc, zero-mul, add-one, arith, length-append}
+use Rattle.std.proofs.Common.{◌≡◌, ℕ, zero, suc, ◌+◌, ◌*◌, ◌/◌, ◌%◌, ◌^◌, ◌<◌, ◌≤◌, List, [], ◌∷◌, ◌++◌, length, get_or, take, drop, sym, refl, ap, ◌∙◌, subst, suc-mul, pow-suc, zero-mul, add-one, arith, length-append, bit_or, fold, mul_assoc, mul-le-mul_right, lit<}
 use Rattle.std.specs.List.{flat_map}
-use Rattle.std.specs.Int.Digits.{number_from_digits}
+use Rattle.std.specs.Int.Digits.{number_from_digits, number_from_digits_after}
+use Rattle.std.proofs.lemmas.Grind.{or_after_shift}
+use Rattle.std.proofs.Math.Nat.{one-le-pow, le-mul_of_pos_right, pow-le-pow_right}
 use Rattle.std.proofs.lemmas.Nat.{div-add-mod', div-mul-add, mod-mul-add}
 use Rattle.std.proofs.lemmas.Int.Digits.{number_push, number_more}
 use Rattle.std.proofs.lemmas.List.{take_more, take-append-drop, length-drop, get_or-drop, nil_from_length}
@@ -57,3 +59,21 @@ joined_cut w (suc m) bs h small =
     joined_cut w m (drop w bs) (omega (arith, length-drop w bs)) (λ i. subst (λ n. n < 256) (sym (get_or-drop w bs i 0)) (small (w + i))) in
     let whole = take-append-drop w bs in
     cc
+
+-- a byte more of a word that is read, the high byte first
+abbrev pub with_byte : ℕ → ℕ → ℕ
+with_byte v b = bit_or (v * 256 % 2 ^ 64) b
+
+read_after : (n : ℕ) (ds : List ℕ) → ((i : ℕ) → get_or ds i 0 < 256) → (n + 1) * 256 ^ length ds ≤ 2 ^ 64 → fold with_byte n ds ≡ number_from_digits_after 256 n ds
+read_after n [] small h = refl
+read_after n (d ∷ ds) small h =
+    let rest = 256 ^ length ds in
+    let low : d < 256 = small 0 in
+    let next : (n * 256 + d + 1) * rest ≤ (n + 1) * 256 * rest = mul-le-mul_right rest (omega arith) in
+    let more : (n * 256 + d + 1) * rest ≤ 2 ^ 64 = omega (arith, next, mul_assoc (n + 1) 256 rest, ap (λ p. (n + 1) * p) (pow-suc 256 (length ds))) in
+    let room : n * 256 < 2 ^ 64 = omega (arith, more, le-mul_of_pos_right (n * 256 + d + 1) (one-le-pow (length ds) 256 (lit< tt))) in
+    ap (λ v. fold with_byte v ds) (or_after_shift n 256 (2 ^ 64) d refl low room) ∙ read_after (n * 256 + d) ds (λ i. small (suc i)) more
+
+-- the bytes of a word, eight at most, are read as the number that they write
+pub read_is : (ds : List ℕ) → ((i : ℕ) → get_or ds i 0 < 256) → length ds ≤ 8 → fold with_byte 0 ds ≡ number_from_digits 256 ds
+read_is ds small h = read_after 0 ds small (omega (arith, pow-le-pow_right {n = 256} (omega arith) h))

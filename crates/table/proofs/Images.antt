@@ -1,10 +1,10 @@
 -- An image opens as the table that it is the image of, and as no other.
-use Rattle.std.proofs.Common.{◌≡◌, ℕ, zero, suc, ◌+◌, ◌*◌, ◌/◌, ◌%◌, ◌^◌, ◌<◌, ◌≤◌, Bool, true, false, cond, ◌&&◌, eqb, ltb, leb, List, [], ◌∷◌, length, get_or, drop, Option, Some, None, Ok, Err, Result, sym, refl, ap, ◌∙◌, subst, pow-suc, arith}
-use native.Mathlib.Nat.{pow-le-pow_right}
+use Rattle.std.proofs.Common.{inl, ◌≡◌, ℕ, zero, suc, ◌+◌, ◌*◌, ◌/◌, ◌%◌, ◌^◌, ◌<◌, ◌≤◌, Bool, true, false, cond, ◌&&◌, eqb, ltb, leb, List, [], ◌∷◌, length, get_or, drop, Option, Some, None, Ok, Err, Result, sym, refl, ap, ◌∙◌, subst, pow-suc, arith}
+use Rattle.std.proofs.Math.Nat.{pow-le-pow_right}
 use Rattle.std.specs.List.{flat_map}
 use Rattle.std.proofs.lemmas.Nat.{div-add-mod', div-mul-add, mod-mul-add, pow-add}
 use Rattle.std.proofs.lemmas.List.{drop_more, get_or-drop}
-use Rattle.std.proofs.lemmas.Bool.{leb-true, eqb-true, ltb-true, le-leb, eq-eqb, lt-ltb, and_parts, and_from, cond-true}
+use Rattle.std.proofs.lemmas.Bool.{leb-true, eqb-true, ltb-true, le-leb, eq-eqb, and_parts, and_from, cond-true}
 use Rattle.shapes.specs.Limits.{InLimits, outside, unless, limited}
 use Rattle.shapes.specs.declared.limit.Limit.{Limit}
 use Rattle.shapes.specs.Results.{and_then}
@@ -14,18 +14,12 @@ use Rattle.shapes.specs.declared.shape.Dims.{Dims}
 use Rattle.table.specs.Sizes.{width, cell_count, cells_length, header_length, image_length}
 use Rattle.table.specs.Images.{Content, version, bytes_of, image, cut, content_of, headed, heading, sizing, below, first_large, fitting, opening}
 use Rattle.table.specs.Laws.{Sound, Bytes, ImageOpensAsItsTable, OneImageForEachTable}
-use Rattle.table.proofs.Walks.{length_cut}
+use Rattle.table.proofs.Walks.{length_cut, below_is}
 use Rattle.table.proofs.Bytes.{length_joined, cut_joined, joined_cut}
 use Rattle.shapes.proofs.Ranges.{limits_from_outside, outside_from_limits}
 use Rattle.table.proofs.Openings.{fitting_is}
 
 -- ---- words within their limit
-
-below_all : (limit : ℕ) (xs : List ℕ) → ((i : ℕ) → i < length xs → get_or xs i 0 < limit) → below limit xs ≡ length xs
-below_all limit [] small = refl
-below_all limit (x ∷ xs) small =
-    ap (λ b. cond b (suc (below limit xs)) zero) (lt-ltb x limit (small 0 (omega arith)))
-    ∙ ap suc (below_all limit xs (λ i h. small (suc i) (omega arith)))
 
 first_below : (limit x : ℕ) (xs : List ℕ) (b : Bool) → ltb x limit ≡ b → cond b (suc (below limit xs)) zero ≡ suc (length xs)
     → (x < limit) × (below limit xs ≡ length xs)
@@ -79,7 +73,7 @@ opens_as_its_table t sound =
     ap (λ o. and_then o (λ e. and_then (sizing e cells) (λ f. fitting (content_of f cells)))) (heading_is bs d (omega arith) refl same)
     ∙ (ap (λ o. and_then o (λ f. fitting (content_of f cells))) (sizing_is d cells sound.limits long)
     ∙ (ap (λ ws. fitting (record { dims = d; words = ws })) words
-    ∙ fitting_is t (below_all _ t.words sound.small)))
+    ∙ fitting_is t (below_is _ t.words (length t.words) (omega arith) sound.small (inl refl))))
 
 -- ---- what passing says of each check
 

@@ -1,13 +1,14 @@
 -- A walk over the cells of w bytes in a run of bytes, as `chunks_exact` makes it.
-use Rattle.std.proofs.Common.{◌≡◌, ℕ, zero, suc, ◌+◌, ◌/◌, ◌<◌, ◌≤◌, true, false, cond, List, ◌∷◌, ◌++◌, length, get_or, drop, sym, refl, ap, ◌∙◌, subst, add-one, arith, length-append, le-ltb, lt-ltb}
-use native.Mathlib.Nat.{add-div_left, div-eq_of_lt}
-use lib.Bits.{bit_xor, xor_zero_r}
+use Rattle.std.proofs.Common.{◌≡◌, ℕ, zero, suc, ◌+◌, ◌/◌, ◌<◌, ◌≤◌, true, false, cond, List, ◌∷◌, ◌++◌, length, get_or, drop, sym, refl, ap, ◌∙◌, subst, add-one, arith, length-append, le-ltb, lt-ltb, [], ◌⊎◌, inl, inr, Option, Some, None, MatchOption, IfSome, IsSomeAnd, option_map, take, ◌*◌, bit_xor}
+use Rattle.std.proofs.Math.Nat.{add-div_left, div-eq_of_lt}
+use Rattle.std.specs.Int.Bits.{xor_zero_r}
 use Rattle.std.specs.Int.Digits.{number_from_digits}
-use Rattle.std.proofs.lemmas.List.{take_at, drop_at, drop_more, at_drop_more}
+use Rattle.std.proofs.lemmas.List.{take_at, drop_at, drop_more}
 use Rattle.span.specs.Sets.{has}
 use Rattle.span.specs.Fillings.{pick, xor_over}
 use Rattle.span.proofs.Xors.{xor_over_more}
-use Rattle.table.specs.Images.{cut, words_in, below}
+use Rattle.table.proofs.Blocks.{get_or_cut}
+use Rattle.table.specs.Images.{cut, words_in, below, First}
 
 pub length_cut : (w m : ℕ) (bs : List ℕ) → length (cut w m bs) ≡ m
 length_cut w zero bs = refl
@@ -58,18 +59,56 @@ left_all w bytes k size rest l h =
     let none : length rest / w ≡ 0 = div-eq_of_lt (subst (λ n. length rest < n) l.sized h) in
     omega (arith, l.ahead)
 
--- ---- the words below a limit, before the first that is not
+-- ---- the first word that is not below a limit
 
-pub below_more : (limit : ℕ) (xs : List ℕ) (k : ℕ) → k < length xs → get_or xs k 0 < limit
-    → below limit (drop k xs) ≡ suc (below limit (drop (k + 1) xs))
-below_more limit xs k h l =
-    at_drop_more (below limit) xs k 0 h
-    ∙ ap (λ b. cond b (suc (below limit (drop (k + 1) xs))) zero) (lt-ltb (get_or xs k 0) limit l)
+-- so many words are below it, where each of them is, and where they are all or the next is not
+pub below_is : (limit : ℕ) (xs : List ℕ) (i : ℕ) → i ≤ length xs → ((k : ℕ) → k < i → get_or xs k 0 < limit)
+    → (i ≡ length xs) ⊎ (limit ≤ get_or xs i 0) → below limit xs ≡ i
+below_is limit [] zero h small stop = refl
+below_is limit [] (suc i) h small stop = absurd (omega arith)
+below_is limit (x ∷ xs) zero h small (inl e) = absurd (omega arith)
+below_is limit (x ∷ xs) zero h small (inr l) = ap (λ b. cond b (suc (below limit xs)) zero) (le-ltb x limit l)
+below_is limit (x ∷ xs) (suc i) h small stop =
+    ap (λ b. cond b (suc (below limit xs)) zero) (lt-ltb x limit (small 0 (omega arith)))
+    ∙ ap suc (below_is limit xs i (omega arith) (λ k l. small (suc k) (omega arith)) (next stop))
+  where
+    next : (suc i ≡ suc (length xs)) ⊎ (limit ≤ get_or xs i 0) → (i ≡ length xs) ⊎ (limit ≤ get_or xs i 0)
+    next (inl e) = inl (omega arith)
+    next (inr l) = inr l
 
-pub below_stop : (limit : ℕ) (xs : List ℕ) (k : ℕ) → k < length xs → limit ≤ get_or xs k 0 → below limit (drop k xs) ≡ 0
-below_stop limit xs k h l =
-    at_drop_more (below limit) xs k 0 h
-    ∙ ap (λ b. cond b (suc (below limit (drop (k + 1) xs))) zero) (le-ltb (get_or xs k 0) limit l)
+-- the word of cell k
+abbrev pub word_of : ℕ → List ℕ → ℕ → ℕ
+word_of w bs k = number_from_digits 256 (take w (drop (k * w) bs))
+
+-- what is found is the first, where each word before it is below the limit, and it is not
+pub found_first : (limit w : ℕ) (bs : List ℕ) (found : Option ℕ)
+    → MatchOption found ((k : ℕ) → k < length bs / w → word_of w bs k < limit)
+    (λ i. (i < length bs / w) × (limit ≤ word_of w bs i) × ((k : ℕ) → k < i → word_of w bs k < limit))
+    → First limit (words_in w bs) found
+found_first limit w bs None small =
+    let m = length bs / w in
+    let long = length_cut w m bs in
+    below_is limit (words_in w bs) m (omega arith) (λ k h. rw (get_or_cut w m bs k h) (small k h)) (inl (sym long)) ∙ sym long
+found_first limit w bs (Some i) (within, large, small) =
+    let m = length bs / w in
+    let long = length_cut w m bs in (
+      below_is limit (words_in w bs) i (omega arith) (λ k h. rw (get_or_cut w m bs k (omega arith)) (small k h)) (inr (rw (get_or_cut w m bs i within) large)),
+      omega arith,
+    )
+
+-- ---- what a chain tells of the items that it went over
+
+pub match_map : {T : Type 0} (o : Option T) {P P' : Type 0} {Q Q' : T → Type 0} → MatchOption o P Q → (P → P') → ((x : T) → Q x → Q' x) → MatchOption o P' Q'
+match_map None m f g = f m
+match_map (Some x) m f g = g x m
+
+pub met : {A : Type 0} (o : Option A) {P Q : A → Type 0} {R : Type 0} → IsSomeAnd o P → IfSome o Q → ((x : A) → P x → Q x → R) → R
+met None p q f = absurd p
+met (Some x) p q f = f x p q
+
+pub some_and : {A : Type 0} (o : Option A) (y : A) (P : A → Type 0) → option_map (λ x. x) o ≡ Some y → IfSome o P → IsSomeAnd o P
+some_and None y P e p = cc
+some_and (Some x) y P e p = p
 
 -- ---- the XOR of the words in a set, one cell after another: x is the word of cell k, i the cell that is looked for in the set
 

@@ -1,5 +1,5 @@
 -- A table's content, its image as bytes, and what a run of bytes opens as.
-use Rattle.std.specs.Prelude.{◌≡◌, ℕ, zero, suc, ◌+◌, ◌*◌, ◌/◌, ◌%◌, ◌^◌, ◌<◌, Bool, cond, ◌&&◌, List, [], ◌∷◌, ◌++◌, length, take, drop, Ok, Err, Option, Result, MatchOption, ◌==◌, nat_le, nat_lt, slice_index}
+use Rattle.std.specs.Prelude.{◌≡◌, ℕ, zero, suc, ◌+◌, ◌*◌, ◌/◌, ◌%◌, ◌^◌, ◌<◌, cond, ◌&&◌, List, [], ◌∷◌, ◌++◌, length, take, drop, Ok, Err, Option, Result, MatchOption, ◌==◌, nat_le, nat_lt, slice_index, is_ok}
 use Rattle.std.specs.List.{flat_map}
 use Rattle.std.specs.Int.Digits.{number_from_digits}
 use Rattle.shapes.specs.Limits.{limited}
@@ -7,6 +7,7 @@ use Rattle.shapes.specs.Results.{and_then}
 use Rattle.shapes.specs.declared.fault.Fault.{Fault}
 use Rattle.shapes.specs.declared.fault.Fault.TheVariants.{NoHeader, HeaderLimit, ImageLength, LargeCell}
 use Rattle.shapes.specs.declared.shape.Dims.{Dims}
+use Rattle.table.specs.declared.store.WrongLength.{WrongLength}
 use Rattle.table.specs.Sizes.{width, cell_count, cells_length, header_length, image_length}
 
 -- What a table holds: a shape's five numbers, and a word for each cell, block after block.
@@ -34,9 +35,9 @@ abbrev pub image : Content → List ℕ
 image t = header t.dims ++ flat_map (bytes_of (width t.dims)) t.words
 
 -- The bytes are put where there is room for exactly them; otherwise nothing is altered.
-pub record Stored (bytes old : List ℕ) (r : Bool) (new : List ℕ) : Type 0 where
-  pub told : r ≡ (length old == length bytes)
-  pub put : new ≡ cond r bytes old
+pub record Stored (bytes old : List ℕ) (r : Result (Unit {0}) WrongLength) (new : List ℕ) : Type 0 where
+  pub told : is_ok r ≡ (length old == length bytes)
+  pub put : new ≡ cond (is_ok r) bytes old
 
 -- ---- what bytes open as
 

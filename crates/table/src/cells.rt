@@ -15,11 +15,7 @@ fn word(cell: &[u8]) -> u64
     requires { length cell.now ≤ 8 }
     ensures { result ≡ number_from_digits 256 cell.now }
 {
-    let mut v = 0;
-    for byte in cell {
-        v = v * 256 + *byte as u64;
-    }
-    v
+    cell.iter().fold(0, |word, byte| word << 8 | *byte as u64)
 }
 
 // The largest word of so many bits.
@@ -30,29 +26,24 @@ fn largest(bits: u32) -> u64
     u64::MAX >> (64 - bits)
 }
 
-// Whether the word has no more bits than these.
-fn fits(word: u64, bits: u32) -> bool
-    requires { (1 ≤ bits) × (bits ≤ 64) }
-    ensures { result ≡ nat_lt word (2 ^ bits) }
+// Whether the word has no more bits than a cell of this shape: s + r.
+fn fits(word: u64, shape: &Shape) -> bool
+    ensures { result ≡ nat_lt word (2 ^ (shape.now.dims.s + shape.now.dims.r)) }
 {
-    word <= largest(bits)
+    let dims = shape.dims();
+    word <= largest(dims.s as u32 + dims.r as u32)
 }
 
-// The first cell whose word has more bits than these, if there is one.
-fn first_above(cells: &[u8], width: usize, bits: u32) -> Option<usize>
-    requires bytes { (1 ≤ width) × (width ≤ 8) }
-    requires size { (1 ≤ bits) × (bits ≤ 64) }
-    ensures { First (2 ^ bits) (words_in width cells.now) result }
+// The first cell whose word has more than s + r bits, if there is one.
+pub fn first_large(cells: &[u8], shape: &Shape) -> Option<usize>
+    ensures { First (2 ^ (shape.now.dims.s + shape.now.dims.r)) (words_in (width shape.now.dims) cells.now) result }
 {
-    for (i, cell) in cells.chunks_exact(width).enumerate() {
-        if !fits(word(cell), bits) {
-            return Some(i);
-        }
-    }
-    None
+    cells
+        .chunks_exact(sizes::cell_width(shape))
+        .position(|cell| !fits(word(cell), shape))
 }
 
-// The XOR of the words in cells of these many bytes that are in the set.
+// The XOR of the words in cells of these many bytes that are in the set. It is a loop, as was asked for (docs/DECISIONS.md).
 fn xor_records(block: &[u8], width: usize, cells: CellSet) -> u64
     requires { (1 ≤ width) × (width ≤ 8) }
     ensures { result ≡ xor_in width block.now (mask cells) }
@@ -64,18 +55,6 @@ fn xor_records(block: &[u8], width: usize, cells: CellSet) -> u64
         }
     }
     v
-}
-
-// The first cell whose word has more than s + r bits, if there is one.
-pub fn first_large(cells: &[u8], shape: &Shape) -> Option<usize>
-    ensures { First (2 ^ (shape.now.dims.s + shape.now.dims.r)) (words_in (width shape.now.dims) cells.now) result }
-{
-    let dims = shape.dims();
-    first_above(
-        cells,
-        sizes::cell_width(shape),
-        dims.s as u32 + dims.r as u32,
-    )
 }
 
 // The XOR of the words of a block whose cells are in the set.

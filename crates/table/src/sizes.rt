@@ -13,7 +13,7 @@ pub fn cell_width(shape: &Shape) -> usize
     ensures { result ≡ width shape.now.dims }
 {
     let dims = shape.dims();
-    (dims.s as usize + dims.r as usize + 7) / 8
+    (dims.s + dims.r).div_ceil(8) as usize
 }
 
 // The cells of all blocks.

@@ -8,51 +8,35 @@ use crate::sizes;
 use crate::table::VERSION;
 use shapes::shape::Shape;
 
+// There is more or less room than what is to be written needs. Nothing was altered.
+#[derive(Clone, Copy, PartialEq, Eq, Debug)]
+pub struct WrongLength;
+
 // Copies the bytes where there is room for exactly them.
-fn put_bytes(from: &[u8], to: &mut [u8]) -> bool
+fn put_bytes(from: &[u8], to: &mut [u8]) -> Result<(), WrongLength>
     ensures { Stored from.now to.old result to.new }
 {
     if to.len() != from.len() {
-        return false;
+        return Err(WrongLength);
     }
     to.copy_from_slice(from);
-    true
+    Ok(())
 }
 
-// Writes the low bytes of the word, as many as the cell has, the high byte first.
-fn put_word(word: u64, cell: &mut [u8])
-    ensures { cell.new ≡ bytes_of (length cell.old) word }
+// Writes each word in as many bytes as a cell has, one word after another.
+fn put_each(shape: &Shape, words: &[u64], cells: &mut [u8])
+    requires { length cells.old ≡ length words.now * width shape.now.dims }
+    ensures { cells.new ≡ flat_map (bytes_of (width shape.now.dims)) words.now }
 {
-    let mut rest = word;
-    for i in (0..cell.len()).rev() {
-        cell[i] = (rest % 256) as u8;
-        rest /= 256;
-    }
-}
-
-// Writes each word in so many bytes, one word after another.
-fn put_each(words: &[u64], width: usize, cells: &mut [u8])
-    requires { length cells.old ≡ length words.now * width }
-    ensures { cells.new ≡ flat_map (bytes_of width) words.now }
-{
+    let width = sizes::cell_width(shape);
+    // By index: what is written through `chunks_exact_mut` is not known afterwards.
     for (i, word) in words.iter().enumerate() {
-        put_word(*word, &mut cells[i * width..(i + 1) * width]);
+        cells[i * width..(i + 1) * width].copy_from_slice(&word.to_be_bytes()[8 - width..]);
     }
-}
-
-// The same where there is room for exactly those bytes. Their number may be past what a usize holds.
-fn put_all(words: &[u64], width: usize, cells: &mut [u8]) -> bool
-    ensures { Stored (flat_map (bytes_of width) words.now) cells.old result cells.new }
-{
-    if words.len().checked_mul(width) != Some(cells.len()) {
-        return false;
-    }
-    put_each(words, width, cells);
-    true
 }
 
 // Writes the eight bytes of the header, where there is room for exactly them.
-pub fn put_header(shape: &Shape, bytes: &mut [u8]) -> bool
+pub fn put_header(shape: &Shape, bytes: &mut [u8]) -> Result<(), WrongLength>
     ensures { Stored (header shape.now.dims) bytes.old result bytes.new }
 {
     let dims = shape.dims();
@@ -72,8 +56,14 @@ pub fn put_header(shape: &Shape, bytes: &mut [u8]) -> bool
 }
 
 // Writes each word in as many bytes as a cell has, the high byte first, where there is room for exactly all of them.
-pub fn put_words(shape: &Shape, words: &[u64], cells: &mut [u8]) -> bool
+#[tactic(auto, using(crate::proofs::Bytes::length_joined))]
+pub fn put_words(shape: &Shape, words: &[u64], cells: &mut [u8]) -> Result<(), WrongLength>
     ensures { Stored (flat_map (bytes_of (width shape.now.dims)) words.now) cells.old result cells.new }
 {
-    put_all(words, sizes::cell_width(shape), cells)
+    // The number of bytes may be past what a usize holds.
+    if words.len().checked_mul(sizes::cell_width(shape)) != Some(cells.len()) {
+        return Err(WrongLength);
+    }
+    put_each(shape, words, cells);
+    Ok(())
 }

@@ -35,7 +35,7 @@ impl<K: Marked> Draft<'_, K> {
     {
         let mut words = [0; CELLS];
         let n = self.shape.dims().n as usize;
-        store::put_header(&self.shape, &mut image[..sizes::HEADER]);
+        store::put_header(&self.shape, &mut image[..sizes::HEADER]).unwrap();
         self.write_cells(&mut words[..n], &mut image[sizes::HEADER..]);
     }
 
@@ -61,6 +61,6 @@ impl<K: Marked> Draft<'_, K> {
         ensures { BlockWords K.Marked.view K.Marked.marks self.now at cells.new }
     {
         self.rows.fill(self.block(at), words).unwrap();
-        store::put_words(&self.shape, words, cells);
+        store::put_words(&self.shape, words, cells).unwrap();
     }
 }

@@ -1,12 +1,10 @@
-use Rattle.std.proofs.Common.{◌≡◌, ◌+◌, ◌-◌, ◌*◌, ◌/◌, ◌^◌, sym, ap, ◌∙◌, arith}
-use lib.Pow.{ones_split, high, ones_lt, suc_ones}
+use Rattle.std.proofs.Common.{◌≡◌, ◌-◌, ◌/◌, ◌^◌, ◌∙◌, ap, arith}
+use Rattle.std.proofs.lemmas.Nat.{pow_pos}
+use Rattle.std.proofs.lemmas.Nat.Bits.{ones_shr}
 use Rattle.table.proofs.cells.largest.Goals as goal
 
 pub returns : goal.returns
 returns c =
-    let j = c.args.bits in
-    let k = 64 - j in
-    let whole : j + k ≡ 64 = omega arith in
-    let all : 18446744073709551615 ≡ (2 ^ j - 1) * 2 ^ k + (2 ^ k - 1) = ap (λ n. 2 ^ n - 1) (sym whole) ∙ ones_split j k in
-    let top : 18446744073709551615 / 2 ^ k ≡ 2 ^ j - 1 = ap (λ n. n / 2 ^ k) all ∙ high (2 ^ j - 1) k (ones_lt k) in
-    omega (arith, top, suc_ones j)
+    let bits = c.args.bits in
+    let all : (2 ^ 64 - 1) / 2 ^ (64 - bits) ≡ 2 ^ bits - 1 = ones_shr 64 (64 - bits) (omega arith) ∙ ap (λ n. 2 ^ n - 1) (omega arith) in
+    omega (arith, all, pow_pos bits)

@@ -26,9 +26,6 @@ passed c =
     let step = c.in-Some.ensures.steps in
     left_more _ _ _ _ _ _ _ _ _ (omega arith) c.loop-c.invariant.2 step.2 step.0.0 step.0.1.0 step.0.1.1
 
-pub word-v-requires : goal.word-v-requires
-word-v-requires c = search rules
-
 pub loop-c-preserved : goal.loop-c-preserved
 loop-c-preserved c =
     let p = passed (goal.at.loop-c-preserved c).In-Some in
