@@ -5,7 +5,7 @@ use gf2::kinds::{Pair, Word};
 use gf2::row::Row;
 use gf2::sets::CellSet;
 use readers::split::Split;
-use runs::{Outcome, Work, replay};
+use runs::{Outcome, Step, Work, replay};
 use shapes::shape::{Dims, Shape};
 
 // The published example: four cells, three draws, three check bits, two notice bits, one block.
@@ -43,31 +43,29 @@ fn blank() -> Row<Pair<Word, CellSet>> {
     }
 }
 
+// A step whose work is still to be done.
+fn ahead(work: Work<'_>) -> Step<'_> {
+    Step {
+        work,
+        outcome: None,
+    }
+}
+
 // Enters the list, asks which cells are bound, and writes the table.
 fn office(rt: HostRuntime, shape: Shape, image: &mut [u8]) -> anyhow::Result<()> {
-    let works = [
-        Work::Enter(&CAT, 0),
-        Work::Enter(&FISH, 1),
-        Work::Enter(&DOG, 2),
-        Work::Count(0),
-        Work::Bound(0, 0),
-        Work::Bound(0, 1),
-        Work::Bound(0, 2),
-        Work::Bound(0, 3),
+    let mut steps = [
+        ahead(Work::Enter(&CAT, 0)),
+        ahead(Work::Enter(&FISH, 1)),
+        ahead(Work::Enter(&DOG, 2)),
+        ahead(Work::Count(0)),
+        ahead(Work::Bound(0, 0)),
+        ahead(Work::Bound(0, 1)),
+        ahead(Work::Bound(0, 2)),
+        ahead(Work::Bound(0, 3)),
     ];
-    let mut outcomes = [Outcome::Wrote(Ok(0)); 8];
-    if let Some(written) = replay(
-        &Split,
-        shape,
-        &mut [blank(); 4],
-        &works,
-        &mut outcomes,
-        image,
-    ) {
-        print_each(rt, &works, &outcomes)?;
-        print_each(rt, &[Work::Write], &[Outcome::Wrote(written)])?;
-    }
-    Ok(())
+    let written = replay(&Split, shape, &mut [blank(); 4], &mut steps, image);
+    print_each(rt, &steps)?;
+    print_done(rt, &Work::Write, &Outcome::Wrote(written))
 }
 
 // Opens the image, and asks it about the serials.
@@ -83,34 +81,30 @@ fn roof(rt: HostRuntime, image: &[u8]) -> anyhow::Result<()> {
 
 // Enters the list, and then a serial that is dependent and one that conflicts.
 fn disputes(rt: HostRuntime, shape: Shape) -> anyhow::Result<()> {
-    let works = [
-        Work::Enter(&CAT, 0),
-        Work::Enter(&FISH, 1),
-        Work::Enter(&DOG, 2),
-        Work::Enter(&SUM, 3),
-        Work::Enter(&SUM, 0),
+    let mut steps = [
+        ahead(Work::Enter(&CAT, 0)),
+        ahead(Work::Enter(&FISH, 1)),
+        ahead(Work::Enter(&DOG, 2)),
+        ahead(Work::Enter(&SUM, 3)),
+        ahead(Work::Enter(&SUM, 0)),
     ];
-    let mut outcomes = [Outcome::Wrote(Ok(0)); 5];
-    let mut image = [0; 12];
-    if let Some(_) = replay(
-        &Split,
-        shape,
-        &mut [blank(); 4],
-        &works,
-        &mut outcomes,
-        &mut image,
-    ) {
-        print_each(rt, &works[3..], &outcomes[3..])?;
+    let _ = replay(&Split, shape, &mut [blank(); 4], &mut steps, &mut [0; 12]);
+    print_each(rt, &steps[3..])
+}
+
+// A line for each step that was done.
+fn print_each(rt: HostRuntime, steps: &[Step]) -> anyhow::Result<()> {
+    for step in steps {
+        if let Some(outcome) = &step.outcome {
+            print_done(rt, &step.work, outcome)?;
+        }
     }
     Ok(())
 }
 
-// A line for each work and what it answered.
-fn print_each(rt: HostRuntime, works: &[Work], outcomes: &[Outcome]) -> anyhow::Result<()> {
-    let heap = rt.alloc();
-    for (work, outcome) in works.iter().zip(outcomes.iter()) {
-        println!(rt; "{}", report::done(heap, work, outcome)?)?;
-    }
+// A line for a work and what it answered.
+fn print_done(rt: HostRuntime, work: &Work, outcome: &Outcome) -> anyhow::Result<()> {
+    println!(rt; "{}", report::done(rt.alloc(), work, outcome)?)?;
     Ok(())
 }
 

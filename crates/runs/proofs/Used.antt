@@ -20,10 +20,11 @@ use Rattle.drafts.specs.Entries.{with_rows, notice_in, entry_of, making}
 use Rattle.drafts.specs.Outcomes.{Together}
 use Rattle.drafts.specs.Questions.{Tells, SaysBound}
 use Rattle.drafts.specs.Writing.{writing}
-use Rattle.runs.specs.Lending.{used_rows, RowsKept}
+use Rattle.runs.specs.Lending.{used_rows, RowsKept, works_of, Ran}
 use Rattle.runs.specs.Runs.{Deed, enters, writes, asks, counts, setting, Entering, entries, entered_with, adds, passing, Held, AnswersEntering, Answers}
 use Rattle.runs.specs.Law.{Lawful}
 use Rattle.runs.specs.declared.works.Outcome.{Outcome}
+use Rattle.runs.specs.declared.works.Step.{Step}
 use Rattle.runs.specs.declared.works.Outcome.TheVariants.{Wrote}
 use Rattle.runs.proofs.Lawful.{lawful}
 
@@ -101,3 +102,14 @@ used_within d rows = go (leb (cell_count d) rows) refl
 pub rows_kept : {R : Type 0} (d : Dims) (used : ℕ) (rows : List R) → used ≡ used_rows d (length rows) → (part : List R) → length part ≡ used
     → RowsKept d rows (part ++ drop used rows)
 rows_kept d used rows is part long = subst (λ j. drop j (part ++ drop used rows) ≡ drop j rows) is (drop_at part (drop used rows) used long)
+
+-- a run on the rows that a draft uses is one on all that are lent
+pub ran : (blame : Blame) (m : Meaning) (d : Dims) (used rows room : ℕ) (old new : List Step) (w : Result ℕ Fault) (buffer buffer' : List ℕ)
+    → InLimits d → used ≡ used_rows d rows → Ran blame (setting m d used room) old new w buffer buffer' → Ran blame (setting m d rows room) old new w buffer buffer'
+ran blame m d used rows room old new w buffer buffer' limits is r = record {
+  outcomes = r.outcomes;
+  law = lawful_same m d used rows room (ap (with_rows d) is ∙ used_same d rows limits) blame limits (works_of old) r.outcomes w buffer' r.law;
+  noted = r.noted;
+  works = r.works;
+  rest = r.rest;
+}

@@ -1,5 +1,5 @@
 -- The steps of a run, as its parts promise them to each other.
-use Rattle.std.specs.Prelude.{◌≡◌, ℕ, ◌⊎◌, List, ◌∷◌, length, Ok, Err, Result}
+use Rattle.std.specs.Prelude.{◌≡◌, ℕ, ◌⊎◌, List, [], ◌∷◌, length, Ok, Err, Result}
 use Rattle.span.specs.Slots.{Blame}
 use Rattle.span.specs.Marked.{Full, fulls, Marks}
 use Rattle.span.specs.Blocks.{Placed}
@@ -11,9 +11,10 @@ use Rattle.drafts.specs.Outcomes.{Together}
 use Rattle.drafts.specs.Standing.{dims_of, row_count, Stands}
 use Rattle.drafts.specs.Writing.{writing}
 use Rattle.drafts.specs.declared.draft.Draft.{Draft}
-use Rattle.runs.specs.Lending.{RestKept}
+use Rattle.runs.specs.Lending.{RestKept, used_rows, Ran}
 use Rattle.runs.specs.Runs.{Deed, enters, writes, asks, counts, Setting, setting, Entering, entries, Answers}
 use Rattle.runs.specs.declared.works.Outcome.{Outcome}
+use Rattle.runs.specs.declared.works.Step.{Step}
 
 -- What is held after an entering that made the entry, or none
 abbrev pub NextEntering : Dims → List ℕ → ℕ → Result Placed Fault → List Entering → List Entering → Type 0
@@ -44,3 +45,8 @@ pub record Performs {K : Type 0} (view : K → Full) (marks : Marks fulls) (blam
   pub next : (hs gs : List Entering) → Stands view marks d (entries hs) → Next (setting_of m d (length old)) deed hs gs → Stands view marks d' (entries gs)
   pub room : SameRoom d d'
   pub rest : RestKept (writing (dims_of d) (row_count d) (length old)) old new
+
+-- Steps and the writing after them, on a draft that held nothing: a run on any number of rows of which a draft uses just these.
+pub record Turns {K : Type 0} (view : K → Full) (marks : Marks fulls) (blame : Blame) (m : Meaning)
+    (d : Draft K) (old : List Step) (buffer : List ℕ) (w : Result ℕ Fault) (new : List Step) (buffer' : List ℕ) : Type 0 where
+  pub fresh : (rows : ℕ) → Stands view marks d [] → row_count d ≡ used_rows (dims_of d) rows → Ran blame (setting m (dims_of d) rows (length buffer)) old new w buffer buffer'

@@ -5,4 +5,4 @@ mod run;
 mod works;
 
 pub use run::replay;
-pub use works::{Outcome, Work};
+pub use works::{Outcome, Step, Work};

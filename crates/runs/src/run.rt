@@ -1,10 +1,10 @@
 // Whole runs on a fresh draft.
-ghost use Rattle.std.specs.Prelude.{◌≡◌, ◌≤◌, map, length, MatchOption};
-ghost use Rattle.runs.specs.Lending.{lent, used_rows, NoRoom, Ran};
-ghost use Rattle.runs.specs.Runs.{deed};
-ghost use Rattle.runs.specs.Steps.{Performs};
+ghost use Rattle.std.specs.Prelude.{◌≡◌, length};
+ghost use Rattle.runs.specs.Lending.{used_rows, RowsKept, Ran};
+ghost use Rattle.runs.specs.Runs.{deed, setting};
+ghost use Rattle.runs.specs.Steps.{Performs, Turns};
 
-use crate::works::{Outcome, Work};
+use crate::works::{Outcome, Step, Work};
 use drafts::Draft;
 use gf2::marked::Marked;
 use gf2::row::Row;
@@ -13,40 +13,34 @@ use shapes::fault::Fault;
 use shapes::shape::Shape;
 use table::sizes;
 
-// Does the works on a fresh draft, one after another, notes what each answered, and then writes the table.
-// Where the outcomes have no room, nothing is done.
+// Does the works of the steps on a fresh draft, one after another, notes in each step what its work answered, and then writes the table.
+// Only the rows that the draft uses are lent to it.
 pub fn replay<R: Reader, K: Marked>(
     reader: &R,
     shape: Shape,
     rows: &mut [Row<K>],
-    works: &[Work],
-    outcomes: &mut [Outcome],
-    buffer: &mut [u8],
-) -> Option<Result<usize, Fault>>
-    ensures { MatchOption result (NoRoom (length works.now) (lent rows.old outcomes.old buffer.old) (lent rows.new outcomes.new buffer.new)) (λ w. Ran K.Marked.blame (R.Reader.meaning reader.now) shape.dims (map deed works.now) (lent rows.old outcomes.old buffer.old) w (lent rows.new outcomes.new buffer.new)) }
-{
-    if outcomes.len() < works.len() {
-        return None;
-    }
-    Some(in_turn(reader, shape, rows, works, outcomes, buffer))
-}
-
-// The same where they have room. Only the rows that the draft uses are lent to it.
-fn in_turn<R: Reader, K: Marked>(
-    reader: &R,
-    shape: Shape,
-    rows: &mut [Row<K>],
-    works: &[Work],
-    outcomes: &mut [Outcome],
+    steps: &mut [Step],
     buffer: &mut [u8],
 ) -> Result<usize, Fault>
-    requires { length works.now ≤ length outcomes.old }
-    ensures { Ran K.Marked.blame (R.Reader.meaning reader.now) shape.dims (map deed works.now) (lent rows.old outcomes.old buffer.old) result (lent rows.new outcomes.new buffer.new) }
+    ensures ran { Ran K.Marked.blame (setting (R.Reader.meaning reader.now) shape.dims (length rows.old) (length buffer.old)) steps.old steps.new result buffer.old buffer.new }
+    ensures rows { RowsKept shape.dims rows.old rows.new }
 {
     let used = used_rows(&shape, rows.len());
     let mut draft = Draft::open(shape, &mut rows[..used]);
-    for i in 0..works.len() {
-        outcomes[i] = perform(&mut draft, reader, &works[i], buffer);
+    in_turn(&mut draft, reader, steps, buffer)
+}
+
+// The steps and the writing, on a draft that holds nothing yet.
+fn in_turn<R: Reader, K: Marked>(
+    draft: &mut Draft<'_, K>,
+    reader: &R,
+    steps: &mut [Step],
+    buffer: &mut [u8],
+) -> Result<usize, Fault>
+    ensures { Turns K.Marked.view K.Marked.marks K.Marked.blame (R.Reader.meaning reader.now) draft.old steps.old buffer.old result steps.new buffer.new }
+{
+    for step in steps.iter_mut() {
+        step.outcome = Some(perform(draft, reader, &step.work, buffer));
     }
     draft.write(buffer)
 }
@@ -59,7 +53,7 @@ fn used_rows(shape: &Shape, rows: usize) -> usize
     if needed <= rows { needed } else { 0 }
 }
 
-// Does one work.
+// Does one work. Works are data and no closures, since the law speaks of every list of them.
 fn perform<R: Reader, K: Marked>(
     draft: &mut Draft<'_, K>,
     reader: &R,

@@ -22,3 +22,10 @@ pub enum Outcome {
     Bound(Result<bool, Fault>),
     Counted(Result<u16, Fault>),
 }
+
+// A work of a run, with room for its outcome.
+#[derive(Clone, Copy)]
+pub struct Step<'w> {
+    pub work: Work<'w>,
+    pub outcome: Option<Outcome>,
+}
