@@ -1,6 +1,6 @@
 -- What a draft stands for: nothing at first; and one entry more, where its own block stands for it and the others are as they were.
 use Rattle.std.proofs.Common.{◌≡◌, ℕ, ◌<◌, ◌≤◌, List, [], ◌∷◌, length, sym, refl, ap, ◌∙◌, subst, inl, inr, arith}
-use native.Mathlib.Decide.{ℕ_discrete as dec_eq, dec_le}
+use Rattle.std.proofs.Math.Decide.{ℕ_discrete as dec_eq, dec_le}
 use Rattle.span.specs.Sets.{has}
 use Rattle.span.specs.Kinds.{Member}
 use Rattle.span.specs.Fillings.{Solvable}

@@ -1,8 +1,9 @@
 -- The words of the blocks, one after another, as bytes; and the table that they make up.
-use Rattle.std.proofs.Common.{◌≡◌, ℕ, ◌+◌, ◌-◌, ◌*◌, ◌<◌, ◌≤◌, List, [], ◌∷◌, ◌++◌, length, take, drop, Ok, Result, IsOk, sym, refl, ap, ◌∙◌, subst, append_assoc, mul-le-mul_right, mul_assoc, add-mul, one-mul, arith, length-append}
-use native.Mathlib.Decide.{dec_le}
+use Rattle.std.proofs.Common.{◌≡◌, ℕ, ◌+◌, ◌-◌, ◌*◌, ◌<◌, ◌≤◌, List, [], ◌++◌, length, take, drop, Ok, Result, IsOk, sym, ap, ◌∙◌, subst, mul-le-mul_right, mul_assoc, add-mul, one-mul, arith, length-append}
+use Rattle.std.proofs.Math.Decide.{dec_le}
 use borrow.Rule.Slice.PartMut.{put_mid}
 use Rattle.std.specs.List.{flat_map}
+use Rattle.std.proofs.lemmas.Grind.{flat_map-append}
 use Rattle.std.proofs.lemmas.List.{take_all, drop_at, take-append-le, drop-append-le, length-drop}
 use Rattle.std.proofs.lemmas.Result.{IfOk-at_ok}
 use Rattle.std.proofs.lemmas.Slice.{take-put_mid}
@@ -20,11 +21,6 @@ use Rattle.drafts.specs.Standing.{dims_of, records_of, block_at}
 use Rattle.drafts.specs.Steps.{WordsOf, BlockWords, Enough}
 use Rattle.drafts.specs.declared.draft.Draft.{Draft}
 use Rattle.drafts.proofs.Only.{block_there}
-
--- the bytes of two runs of words
-joined_append : (f : ℕ → List ℕ) (xs ys : List ℕ) → flat_map f (xs ++ ys) ≡ flat_map f xs ++ flat_map f ys
-joined_append f [] ys = refl
-joined_append f (x ∷ xs) ys = ap (λ l. f x ++ l) (joined_append f xs ys) ∙ sym (append_assoc (f x) (flat_map f xs) (flat_map f ys))
 
 -- the end of a part is the start of the next
 pub next_part : (b size : ℕ) → (b + 1) * size ≡ b * size + size
@@ -71,7 +67,7 @@ module _ {K : Type 0} (view : K → Full) (marks : Marks fulls) (d : Draft K) wh
       record {
         words = before.words ++ own.words;
         count = length-append before.words own.words ∙ omega (arith, before.count, own.count, next_part b n);
-        are = front ∙ (ap (λ l. l ++ part) before.are ∙ (ap (λ l. flat_map (bytes_of w) before.words ++ l) own.are ∙ sym (joined_append (bytes_of w) before.words own.words)));
+        are = front ∙ (ap (λ l. l ++ part) before.are ∙ (ap (λ l. flat_map (bytes_of w) before.words ++ l) own.are ∙ sym (flat_map-append (bytes_of w) before.words own.words)));
         fill = λ c h. go c (dec_le b c) h;
       }
     where

@@ -47,6 +47,7 @@ impl<'a, K: Marked> Draft<'a, K> {
 
 impl<K: Marked> Asked<'_, '_, K> {
     // Whether a cell is noted as bound.
+    #[tactic(auto, using(crate::proofs::Bound::tells_bound))]
     fn is_bound(&self, cell: u16) -> Result<bool, Fault>
         ensures { Tells (of_block (dims_of self.now.draft.now) cell) (BoundInDraft K.Marked.view K.Marked.marks self.now.draft.now self.now.block cell) result }
     {

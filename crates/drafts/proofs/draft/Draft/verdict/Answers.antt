@@ -1,17 +1,10 @@
-use Rattle.std.proofs.Common.{subst, arith}
-use Rattle.gf2.specs.Rows.{Missing, Reduction}
+use Rattle.std.proofs.Common.{subst}
+use Rattle.gf2.specs.Rows.{Reduction}
 use Rattle.gf2.specs.declared.row.Row.{Row as Record}
 use Rattle.gf2.specs.declared.row.Block.{Block}
-use Rattle.drafts.specs.Standing.{records_of, block_at}
-use Rattle.drafts.proofs.Only.{block_there}
+use Rattle.drafts.specs.Standing.{records_of}
 use Rattle.drafts.proofs.Verdicts.{judged}
 use Rattle.drafts.proofs.draft.Draft.verdict.Goals as goal
-
-pub unreachable-requires : goal.unreachable-requires
-unreachable-requires g c =
-    let d = c.args.self.now in
-    let missing : Missing (records_of d) (block_at d c.args.entry.block) = subst (Missing (records_of d)) c.block.ensures c.in-None.ensures in
-    omega (arith, block_there d c.args.entry.block c.requires.rows c.requires.block)
 
 pub returns : goal.returns
 returns g c =

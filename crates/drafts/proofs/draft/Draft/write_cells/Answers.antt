@@ -1,17 +1,8 @@
-use Rattle.std.proofs.Common.{◌≡◌, ◌*◌, length, ap, ◌∙◌, arith, rules}
+use Rattle.std.proofs.Common.{◌≡◌, ◌*◌, length, ap, ◌∙◌, arith}
 use Rattle.table.specs.Sizes.{width}
 use Rattle.drafts.specs.Standing.{dims_of}
-use Rattle.drafts.proofs.Writing.{next_part, part_within, words_more, words_all}
+use Rattle.drafts.proofs.Writing.{next_part, part_within, words_more}
 use Rattle.drafts.proofs.draft.Draft.write_cells.Goals as goal
-
-pub slice_bounds-write_block-end : goal.slice_bounds-write_block-end
-slice_bounds-write_block-end g c =
-    let d = c.args.self.now in
-    let size : length c.args.words.now * c.cell_width.result ≡ (dims_of d).n * width (dims_of d) =
-    ap (λ k. k * c.cell_width.result) c.requires.block ∙ ap (λ k. (dims_of d).n * k) c.cell_width.ensures in
-    let within = part_within g.K.Marked.view g.K.Marked.marks d _ size c.loop-b.b
-    (omega (arith, c.loop-b-test.true, ap (λ e. e.b) c.dims-b-end.ensures.same)) _ (c.loop-b.auto.cells ∙ c.requires.size) in
-    search rules
 
 pub loop-b-preserved : goal.loop-b-preserved
 loop-b-preserved g c =
@@ -22,11 +13,3 @@ loop-b-preserved g c =
     (omega (arith, c.loop-b-test.true, ap (λ e. e.b) c.dims-b-end.ensures.same)) (length c.loop-b.cells) (c.loop-b.auto.cells ∙ c.requires.size) in
     words_more g.K.Marked.view g.K.Marked.marks d (length c.args.words.now * c.cell_width.result) size c.loop-b.b _ _
     (omega (arith, within, next_part c.loop-b.b (length c.args.words.now * c.cell_width.result))) c.loop-b.invariant c.write_block.ensures
-
-pub returns : goal.returns
-returns g c =
-    let d = c.args.self.now in
-    let size : length c.args.words.now * c.cell_width.result ≡ (dims_of d).n * width (dims_of d) =
-    ap (λ k. k * c.cell_width.result) c.requires.block ∙ ap (λ k. (dims_of d).n * k) c.cell_width.ensures in
-    words_all g.K.Marked.view g.K.Marked.marks d (length c.args.words.now * c.cell_width.result) size c.loop-b.b (search rules)
-    _ (c.loop-b.auto.cells ∙ c.requires.size) c.loop-b.invariant
