@@ -1,5 +1,5 @@
 -- The words of the blocks, one after another, as bytes; and the table that they make up.
-use Rattle.std.proofs.Common.{◌≡◌, ℕ, ◌+◌, ◌-◌, ◌*◌, ◌<◌, ◌≤◌, List, [], ◌++◌, length, take, drop, Ok, Result, IsOk, sym, ap, ◌∙◌, subst, mul-le-mul_right, mul_assoc, add-mul, one-mul, arith, length-append}
+use Rattle.std.proofs.Common.{◌≡◌, ℕ, ◌+◌, ◌-◌, ◌*◌, ◌<◌, ◌≤◌, List, ◌++◌, length, take, drop, Ok, Result, IsOk, sym, ap, ◌∙◌, subst, mul-le-mul_right, add-mul, one-mul, arith, length-append}
 use Rattle.std.proofs.Math.Decide.{dec_le}
 use borrow.Rule.Slice.PartMut.{put_mid}
 use Rattle.std.specs.List.{flat_map}
@@ -54,9 +54,6 @@ module _ {K : Type 0} (view : K → Full) (marks : Marks fulls) (d : Draft K) wh
         fill = IfOk-at_ok (λ _. Filling view marks (records_of d) (block_at d b) words') done fills'.filled;
       }
 
-  pub no_words : (bytes : List ℕ) → bytes ≡ [] → WordsOf view marks d 0 bytes
-  no_words bytes e = record { words = []; count = omega arith; are = e; fill = λ b h. absurd (omega arith) }
-
   -- one block more
   pub words_more : (size : ℕ) → size ≡ n * w → (b : ℕ) (cells part : List ℕ) → b * size ≤ length cells
       → WordsOf view marks d b (take (b * size) cells) → BlockWords view marks d b part
@@ -89,10 +86,3 @@ module _ {K : Type 0} (view : K → Full) (marks : Marks fulls) (d : Draft K) wh
   -- the bytes of block b are within those of all blocks
   pub part_within : (size : ℕ) → size ≡ n * w → (b : ℕ) → b < (dims_of d).b → (len : ℕ) → len ≡ cells_length (dims_of d) → (b + 1) * size ≤ len
   part_within size is b h len all = subst (λ k. (b + 1) * k ≤ len) (sym is) (omega (arith, block_end w n b (dims_of d).b h, all))
-
-  -- after the last block all bytes are written
-  pub words_all : (size : ℕ) → size ≡ n * w → (m : ℕ) → m ≡ (dims_of d).b → (cells : List ℕ) → length cells ≡ cells_length (dims_of d)
-      → WordsOf view marks d m (take (m * size) cells) → WordsOf view marks d (dims_of d).b cells
-  words_all size is m last cells all done =
-      let whole : length cells ≡ m * size = all ∙ (mul_assoc (dims_of d).b n w ∙ (ap (λ k. (dims_of d).b * k) (sym is) ∙ ap (λ k. k * size) (sym last))) in
-      subst (λ k. WordsOf view marks d k cells) last (subst (WordsOf view marks d m) (take_all (m * size) cells (omega arith)) done)

@@ -11,11 +11,11 @@ use Rattle.drafts.specs.Outcomes.{Answered}
 use Rattle.drafts.specs.Questions.{Tells}
 use Rattle.drafts.specs.Standing.{dims_of, row_count, Stands}
 use Rattle.drafts.specs.Entering.{Enters}
-use Rattle.drafts.specs.Asking.{AskedCell, AskedCount}
+use Rattle.drafts.specs.Asking.{AskedCell}
 use Rattle.drafts.specs.Written.{Wrote, WritesInto}
 use Rattle.drafts.specs.declared.draft.Draft.{Draft}
 use Rattle.runs.specs.Lending.{RestKept}
-use Rattle.runs.specs.Runs.{enters, writes, asks, counts, Entering, entries, AnswersEntering}
+use Rattle.runs.specs.Runs.{enters, asks, Entering, entries, AnswersEntering}
 use Rattle.runs.specs.Steps.{NextEntering, SameRoom, Performs}
 use Rattle.runs.specs.declared.works.Outcome.TheVariants as outcome
 
@@ -79,15 +79,6 @@ module _ {K : Type 0} (view : K → Full) (marks : Marks fulls) (blame : Blame) 
     rest = rest_same _ buffer;
   }
 
-  pub counts_performs : (b : ℕ) (buffer : List ℕ) (r : Result ℕ Fault) → AskedCount view marks d b r
-      → Performs view marks blame m d (counts b) buffer (outcome.Counted r) d buffer
-  counts_performs b buffer r asked = record {
-    answers = λ hs st. (r, refl, tells_more _ _ _ r (λ y p. p (entries hs) st) asked);
-    next = same_stands;
-    room = same_room d;
-    rest = rest_same _ buffer;
-  }
-
   -- what a writing leaves
   pub rest_written : (old : List ℕ) (r : Result ℕ Fault) (new : List ℕ) → WritesInto view marks d old r new → RestKept r old new
   rest_written old r new w = go r w.leaves
@@ -95,12 +86,3 @@ module _ {K : Type 0} (view : K → Full) (marks : Marks fulls) (blame : Blame) 
       go : (q : Result ℕ Fault) → MatchResult q (Wrote view marks d old new) (λ _. new ≡ old) → RestKept q old new
       go (Ok len) (bytes, is, long, e) = ap (drop len) e ∙ drop_at bytes (drop len old) len long
       go (Err f) e = e
-
-  pub writes_performs : (old : List ℕ) (r : Result ℕ Fault) (new : List ℕ) → WritesInto view marks d old r new
-      → Performs view marks blame m d writes old (outcome.Wrote r) d new
-  writes_performs old r new w = record {
-    answers = λ hs st. ap outcome.Wrote w.answers;
-    next = same_stands;
-    room = same_room d;
-    rest = subst (λ (q : Result ℕ Fault). RestKept q old new) w.answers (rest_written old r new w);
-  }

@@ -1,6 +1,6 @@
 -- A run that has come to work i.
 use Rattle.std.proofs.Common.{◌≡◌, ℕ, ◌+◌, ◌<◌, ◌≤◌, List, [], ◌∷◌, ◌++◌, length, get_or, take, Ok, Result, refl, sym, ◌∙◌, subst, subst₂, arith, length-append}
-use native.Mathlib.Decide.{ℕ_discrete as dec_eq}
+use Rattle.std.proofs.Math.Decide.{ℕ_discrete as dec_eq}
 use Rattle.std.proofs.Math.Seq.{get_or-append_seam}
 use Rattle.std.proofs.lemmas.List.{take_all, get_or_append_left}
 use Rattle.span.specs.Slots.{Blame}

@@ -1,8 +1,7 @@
 -- A run on the rows that its draft uses is one on all that are lent: what is answered goes by whether they are enough.
-use Rattle.std.proofs.Common.{◌≡◌, ℕ, ◌≤◌, Bool, true, false, cond, ltb, leb, List, [], ◌∷◌, ◌++◌, length, get_or, take, drop, Ok, Err, Result, sym, refl, ap, ◌∙◌, subst, arith}
-use native.Mathlib.Nat.{one-le-mul}
-use Rattle.std.proofs.lemmas.List.{drop_at}
-use Rattle.std.proofs.lemmas.Bool.{leb-true, le-leb, lt-leb}
+use Rattle.std.proofs.Common.{◌≡◌, ℕ, ◌≤◌, Bool, true, false, cond, ltb, leb, List, [], ◌∷◌, get_or, take, Ok, Err, Result, sym, refl, ap, ◌∙◌, subst, arith}
+use Rattle.std.proofs.Math.Nat.{one-le-mul}
+use Rattle.std.proofs.lemmas.Bool.{le-leb, lt-leb}
 use Rattle.span.specs.Slots.{Blame}
 use Rattle.span.specs.Held.{HeldBy}
 use Rattle.span.specs.Blocks.{Placed}
@@ -20,7 +19,7 @@ use Rattle.drafts.specs.Entries.{with_rows, notice_in, entry_of, making}
 use Rattle.drafts.specs.Outcomes.{Together}
 use Rattle.drafts.specs.Questions.{Tells, SaysBound}
 use Rattle.drafts.specs.Writing.{writing}
-use Rattle.runs.specs.Lending.{used_rows, RowsKept, works_of, Ran}
+use Rattle.runs.specs.Lending.{used_rows, works_of, Ran}
 use Rattle.runs.specs.Runs.{Deed, enters, writes, asks, counts, setting, Entering, entries, entered_with, adds, passing, Held, AnswersEntering, Answers}
 use Rattle.runs.specs.Law.{Lawful}
 use Rattle.runs.specs.declared.works.Outcome.{Outcome}
@@ -90,18 +89,6 @@ used_same d rows limits = go (leb (cell_count d) rows)
     go : (t : Bool) → with_rows d (cond t (cell_count d) 0) ≡ told t
     go true = ap told (le-leb (cell_count d) (cell_count d) (omega arith))
     go false = ap told (lt-leb (cell_count d) 0 some)
-
-pub used_within : (d : Dims) (rows : ℕ) → used_rows d rows ≤ rows
-used_within d rows = go (leb (cell_count d) rows) refl
-  where
-    go : (t : Bool) → leb (cell_count d) rows ≡ t → cond t (cell_count d) 0 ≤ rows
-    go true e = leb-true (cell_count d) rows e
-    go false e = omega arith
-
--- where only those are lent, the others are as they were
-pub rows_kept : {R : Type 0} (d : Dims) (used : ℕ) (rows : List R) → used ≡ used_rows d (length rows) → (part : List R) → length part ≡ used
-    → RowsKept d rows (part ++ drop used rows)
-rows_kept d used rows is part long = subst (λ j. drop j (part ++ drop used rows) ≡ drop j rows) is (drop_at part (drop used rows) used long)
 
 -- a run on the rows that a draft uses is one on all that are lent
 pub ran : (blame : Blame) (m : Meaning) (d : Dims) (used rows room : ℕ) (old new : List Step) (w : Result ℕ Fault) (buffer buffer' : List ℕ)
