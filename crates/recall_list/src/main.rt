@@ -54,15 +54,16 @@ fn ahead(work: Work<'_>) -> Step<'_> {
 // Enters the list, asks which cells are bound, and writes the table.
 fn office(rt: HostRuntime, shape: Shape, image: &mut [u8]) -> anyhow::Result<()> {
     let mut steps = [
-        ahead(Work::Enter(&CAT, 0)),
-        ahead(Work::Enter(&FISH, 1)),
-        ahead(Work::Enter(&DOG, 2)),
-        ahead(Work::Count(0)),
-        ahead(Work::Bound(0, 0)),
-        ahead(Work::Bound(0, 1)),
-        ahead(Work::Bound(0, 2)),
-        ahead(Work::Bound(0, 3)),
-    ];
+        Work::Enter(&CAT, 0),
+        Work::Enter(&FISH, 1),
+        Work::Enter(&DOG, 2),
+        Work::Count(0),
+        Work::Bound(0, 0),
+        Work::Bound(0, 1),
+        Work::Bound(0, 2),
+        Work::Bound(0, 3),
+    ]
+    .map(ahead);
     let written = replay(&Split, shape, &mut [blank(); 4], &mut steps, image);
     print_each(rt, &steps)?;
     print_done(rt, &Work::Write, &Outcome::Wrote(written))
@@ -82,12 +83,13 @@ fn roof(rt: HostRuntime, image: &[u8]) -> anyhow::Result<()> {
 // Enters the list, and then a serial that is dependent and one that conflicts.
 fn disputes(rt: HostRuntime, shape: Shape) -> anyhow::Result<()> {
     let mut steps = [
-        ahead(Work::Enter(&CAT, 0)),
-        ahead(Work::Enter(&FISH, 1)),
-        ahead(Work::Enter(&DOG, 2)),
-        ahead(Work::Enter(&SUM, 3)),
-        ahead(Work::Enter(&SUM, 0)),
-    ];
+        Work::Enter(&CAT, 0),
+        Work::Enter(&FISH, 1),
+        Work::Enter(&DOG, 2),
+        Work::Enter(&SUM, 3),
+        Work::Enter(&SUM, 0),
+    ]
+    .map(ahead);
     let _ = replay(&Split, shape, &mut [blank(); 4], &mut steps, &mut [0; 12]);
     print_each(rt, &steps[3..])
 }
