@@ -79,7 +79,7 @@ module _ {K : Type 0} (view : K → Full) (marks : Marks fulls) (d : Draft K) (c
       let low = (shape_limits d.shape).n_low in
       let at : i / n * n + i % n ≡ i = div-add-mod' i n in
       let under : i / n < (dims_of d).b = (div-lt_iff_lt-mul (omega (arith, low))).1 (omega (arith, words.count)) in
-      subst (λ k. get_or words.words k 0 < 2 ^ answer_bits (dims_of d)) at (small (i / n) (i % n) under (mod-lt i (omega arith)))
+      subst (λ k. get_or words.words k 0 < 2 ^ answer_bits (dims_of d)) at (small (i / n) (i % n) under (mod-lt i low))
 
   pub table_of_draft : TableOf (dims_of d) H t
   table_of_draft = record {

@@ -39,7 +39,8 @@ impl<K: Marked> Draft<'_, K> {
         Ok(())
     }
 
-    // Where the rows of a block stand, and its bound cells.
+    // Where the rows of a block stand, and its bound cells. That the draft has the block is asked here, in `bind` and in `write_block`:
+    // a number that carries the fact would have to borrow the draft, which `bind` alters.
     fn block(&self, at: usize) -> Block
         requires { at < (dims_of self.now).b }
         ensures { result ≡ block_at self.now at }

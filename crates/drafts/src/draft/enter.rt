@@ -16,6 +16,7 @@ use shapes::fault::{Caller, Fault};
 use shapes::shape::Shape;
 
 // Answered in the place of a slot: the entry is dependent. No block has so many slots.
+// A pair of plain numbers is the form that was asked for (docs/DECISIONS.md).
 pub const DEPENDENT: u16 = 65535;
 
 // What is left of an entry when its block's rows are reduced out of it.
@@ -58,7 +59,8 @@ impl<K: Marked> Draft<'_, K> {
         })
     }
 
-    // Takes an entry, or refuses it as a conflict.
+    // Takes an entry, or refuses it as a conflict. `Within` stays a clause: a type of a draft and such an entry would hold the `&mut`,
+    // and this contract would speak of `self.exit.0.now`.
     fn hold(&mut self, entry: Entry) -> Result<(u16, u16), Fault>
         requires { Within self.old (placed entry) }
         ensures holds { Holds K.Marked.view K.Marked.marks K.Marked.blame self.old (placed entry) result self.new }

@@ -27,7 +27,8 @@ impl<K: Marked> Draft<'_, K> {
         Ok(length)
     }
 
-    // Writes the header, and then the cells.
+    // Writes the header, and then the cells. It and the two below ask for a row for each cell by a clause:
+    // a type for a draft that has them would be taken apart in each (`let draft = self.draft;`).
     fn write_image(&self, image: &mut [u8])
         requires rows { Enough self.now }
         requires size { length image.old ≡ image_length (dims_of self.now) }
@@ -47,6 +48,7 @@ impl<K: Marked> Draft<'_, K> {
         ensures { WordsOf K.Marked.view K.Marked.marks self.now (dims_of self.now).b cells.new }
     {
         let size = words.len() * sizes::cell_width(&self.shape);
+        // By number: after a loop over `chunks_exact_mut` nothing is known of the bytes, and the goal `returns` stays open.
         for b in 0..self.shape.dims().b as usize {
             self.write_block(b, words, &mut cells[b * size..(b + 1) * size]);
         }
