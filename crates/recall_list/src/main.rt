@@ -111,11 +111,9 @@ fn print_done(rt: HostRuntime, work: &Work, outcome: &Outcome) -> anyhow::Result
 }
 
 fn main(rt: HostRuntime) -> anyhow::Result<()> {
+    let shape = Shape::check(DIMS)?;
     let mut image = [0; 12];
-    if let Ok(shape) = Shape::check(DIMS) {
-        office(rt, shape, &mut image)?;
-        roof(rt, &image)?;
-        disputes(rt, shape)?;
-    }
-    Ok(())
+    office(rt, shape, &mut image)?;
+    roof(rt, &image)?;
+    disputes(rt, shape)
 }
