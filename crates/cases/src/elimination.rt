@@ -6,6 +6,7 @@ mod tests {
     use gf2::row::{Block, Row};
     use gf2::rows::Rows;
     use gf2::sets::CellSet;
+    use std::process::Abort;
     use std::test::Fail;
 
     // The cells of "cat", "fish", "dog" and 01200000, and check × 4 + notice of the first three.
@@ -18,11 +19,9 @@ mod tests {
     const DEPENDENT: [usize; 3] = [0, 1, 2];
 
     fn set(cells: &[usize]) -> CellSet {
-        let mut set = CellSet::empty();
-        for cell in cells {
-            set = set.toggled(*cell);
-        }
-        set
+        cells
+            .iter()
+            .fold(CellSet::empty(), |set, cell| set.toggled(*cell))
     }
 
     fn block(bound: CellSet) -> Block {
@@ -82,31 +81,23 @@ mod tests {
         }
     }
 
-    #[test]
-    fn table_of_a_lean_block(rt: HostRuntime) {
-        let mut records = [old::<Word>(); 4];
-        let bound = published(&mut records);
+    // The words of the block after the three entries, and whether cell 1 is bound.
+    fn table<K: Marked>(rt: &impl Abort, records: &mut [Row<K>]) {
+        let bound = published(records);
         let mut words = [7; 4];
-        assert!(rt;
-            Rows::over(&mut records)
-                .fill(block(bound), &mut words)
-                .is_ok()
-        );
+        assert!(rt; Rows::over(records).fill(block(bound), &mut words).is_ok());
         assert_eq!(rt; words, [25, 0, 26, 9]);
         assert!(rt; !bound.contains(1));
     }
 
     #[test]
+    fn table_of_a_lean_block(rt: HostRuntime) {
+        table(&rt, &mut [old::<Word>(); 4]);
+    }
+
+    #[test]
     fn table_of_a_full_block(rt: HostRuntime) {
-        let mut records = [old::<Pair<Word, CellSet>>(); 4];
-        let bound = published(&mut records);
-        let mut words = [7; 4];
-        assert!(rt;
-            Rows::over(&mut records)
-                .fill(block(bound), &mut words)
-                .is_ok()
-        );
-        assert_eq!(rt; words, [25, 0, 26, 9]);
+        table(&rt, &mut [old::<Pair<Word, CellSet>>(); 4]);
     }
 
     // 01200000 has check 0. With notice 3 it follows from the three; with notice 0 it contradicts them, all three to blame.
