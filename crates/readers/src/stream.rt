@@ -10,6 +10,7 @@ use crate::draws::ROW;
 use crate::reader::Reader;
 use shapes::fault::Refusal;
 use shapes::shape::Shape;
+use std::array;
 
 // FNV-1a, 64 bits: the hash of the empty key, and the factor.
 const OFFSET_BASIS: u64 = 14695981039346656037;
@@ -52,7 +53,7 @@ pub fn fnv_rule()
     ensures { FnvRule }
 {}
 
-// The generator SplitMix64. It is no `Iterator`: what is written through `iter_mut().zip(..)` is not known afterwards.
+// The generator SplitMix64.
 #[derive(Clone, Copy)]
 pub struct SplitMix {
     state: u64,
@@ -90,11 +91,7 @@ fn first_words(seed: u64) -> [u64; ROW]
     ensures { (i : ℕ) → i < 10 → slice_index result i ≡ word seed i }
 {
     let mut source = SplitMix::new(seed);
-    let mut words = [0; ROW];
-    for word in &mut words {
-        *word = source.next_word();
-    }
-    words
+    array::from_fn(|_| source.next_word())
 }
 
 // The clause that the words from a seed give.
