@@ -9,7 +9,8 @@ use crate::draft::Draft;
 use gf2::marked::Marked;
 use shapes::fault::Fault;
 
-// A block that is asked about: the draft has it.
+// A block that is asked about: the draft has it. The methods name the draft first, since the checker has no rule for `self.draft.tally`,
+// a field behind a field that holds a `&mut`.
 #[derive(Drop)]
 struct Asked<'d, 'a, K> {
     draft: &'d Draft<'a, K>,
