@@ -44,6 +44,7 @@ impl fmt::Display for Slots {
             return f.write_str(", no slots");
         }
         f.write_str(", slots")?;
+        // With a `filter` over the numbers this generic function does not check (`iterator-loop-slot`).
         for slot in 0..SLOTS {
             if slots.contains(slot) {
                 write!(f, " {slot}")?;
