@@ -10,7 +10,10 @@ use Rattle.table.specs.Images.{cut, content_of}
 use Rattle.table.specs.Questions.{xor_in, word_at}
 
 -- the word of cell c stands in the w bytes from c * w on
-pub get_or_cut : (w m : ℕ) (bs : List ℕ) (c : ℕ) → c < m → get_or (cut w m bs) c 0 ≡ number_from_digits 256 (take w (drop (c * w) bs))
+abbrev pub word_of : ℕ → List ℕ → ℕ → ℕ
+word_of w bs c = number_from_digits 256 (take w (drop (c * w) bs))
+
+pub get_or_cut : (w m : ℕ) (bs : List ℕ) (c : ℕ) → c < m → get_or (cut w m bs) c 0 ≡ word_of w bs c
 get_or_cut w zero bs c h = absurd (omega arith)
 get_or_cut w (suc m) bs zero h = ap (λ j. number_from_digits 256 (take w (drop j bs))) (sym (zero-mul w))
 get_or_cut w (suc m) bs (suc c) h =

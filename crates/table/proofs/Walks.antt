@@ -1,13 +1,14 @@
 -- A walk over the cells of w bytes in a run of bytes, as `chunks_exact` makes it.
-use Rattle.std.proofs.Common.{◌≡◌, ℕ, zero, suc, ◌+◌, ◌/◌, ◌<◌, ◌≤◌, true, false, cond, List, ◌∷◌, ◌++◌, length, get_or, drop, sym, refl, ap, ◌∙◌, subst, add-one, arith, length-append, le-ltb, lt-ltb, [], ◌⊎◌, inl, inr, Option, Some, None, MatchOption, IfSome, IsSomeAnd, option_map, take, ◌*◌, bit_xor}
-use Rattle.std.proofs.Math.Nat.{add-div_left, div-eq_of_lt}
+use Rattle.std.proofs.Common.{◌≡◌, ℕ, zero, suc, ◌+◌, ◌/◌, ◌<◌, ◌≤◌, true, false, cond, List, ◌∷◌, ◌++◌, length, get_or, drop, sym, refl, ap, ◌∙◌, add-one, arith, length-append, length-drop, ◌-◌, ap₂, add-mul, one-mul, zero-mul, Bool, le-ltb, lt-ltb, [], ◌⊎◌, inl, inr, Option, Some, None, MatchOption, IfSome, IsSomeAnd, option_map, take, ◌*◌, bit_xor}
 use Rattle.std.specs.Int.Bits.{xor_zero_r}
 use Rattle.std.specs.Int.Digits.{number_from_digits}
-use Rattle.std.proofs.lemmas.List.{take_at, drop_at, drop_more}
+use Rattle.std.proofs.lemmas.List.{take_at, drop_at, drop-drop}
+use Rattle.std.proofs.lemmas.Nat.{div-mul-add}
 use Rattle.span.specs.Sets.{has}
 use Rattle.span.specs.Fillings.{pick, xor_over}
-use Rattle.span.proofs.Xors.{xor_over_more}
-use Rattle.table.proofs.Blocks.{get_or_cut}
+use Rattle.span.proofs.Xors.{xor_over_none, xor_over_more, xor_over_same}
+use Rattle.table.proofs.Blocks.{word_of, get_or_cut}
+use Rattle.table.specs.Questions.{xor_in}
 use Rattle.table.specs.Images.{cut, words_in, below, First}
 
 pub length_cut : (w m : ℕ) (bs : List ℕ) → length (cut w m bs) ≡ m
@@ -16,48 +17,6 @@ length_cut w (suc m) bs = ap suc (length_cut w m (drop w bs))
 
 pub cut_more : (w m : ℕ) (x rest : List ℕ) → length x ≡ w → cut w (suc m) (x ++ rest) ≡ number_from_digits 256 x ∷ cut w m rest
 cut_more w m x rest h = rw (take_at x rest w h, drop_at x rest w h)
-
--- where k cells have been passed: the iterator's size, and the bytes that are left
-pub record Left (w : ℕ) (bytes : List ℕ) (k size : ℕ) (rest : List ℕ) : Type 0 where
-  pub sized : size ≡ w
-  pub ahead : length bytes / w ≡ k + length rest / w
-  pub same : drop k (words_in w bytes) ≡ words_in w rest
-
--- before the first cell
-pub left_none : (w : ℕ) (bytes : List ℕ) (k size : ℕ) (rest : List ℕ) → size ≡ w → k ≡ 0 → rest ≡ bytes → Left w bytes k size rest
-left_none w bytes k size rest s z e =
-    subst (λ n. Left w bytes n size rest) (sym z) (subst (Left w bytes 0 size) (sym e)
-    (record { sized = s; ahead = omega arith; same = refl }))
-
--- what one cell tells
-pub record Passed (w : ℕ) (bytes : List ℕ) (k k' size : ℕ) (x rest : List ℕ) : Type 0 where
-  pub more : k < length (words_in w bytes)
-  pub here : get_or (words_in w bytes) k 0 ≡ number_from_digits 256 x
-  pub left : Left w bytes k' size rest
-
-pub left_more : (w : ℕ) (bytes : List ℕ) (k k' size size' : ℕ) (x rest rest' : List ℕ)
-    → 0 < w → Left w bytes k size rest → k' ≡ k + 1 → size' ≡ size → rest ≡ x ++ rest' → length x ≡ size → Passed w bytes k k' size' x rest'
-left_more w bytes k k' size size' x rest rest' pos l n s e h =
-    let xw : length x ≡ w = h ∙ l.sized in
-    let m = length rest' / w in
-    let long : length rest ≡ w + length rest' = omega (arith, length-append x rest', ap length e) in
-    let one : length rest / w ≡ suc m = ap (λ j. j / w) long ∙ (add-div_left (length rest') pos ∙ add-one (length rest' / w)) in
-    let tail : drop k (words_in w bytes) ≡ number_from_digits 256 x ∷ cut w m rest' =
-    l.same ∙ (ap (λ j. cut w j rest) one ∙ (ap (cut w (suc m)) e ∙ cut_more w m x rest' xw)) in
-    let room : k < length (words_in w bytes) = rw length_cut (omega (arith, l.ahead)) in
-    let first = drop_more (words_in w bytes) k 0 room in
-    record {
-      more = room;
-      here = cc;
-      left = subst (λ j. Left w bytes j size' rest') (sym n)
-          (record { sized = s ∙ l.sized; ahead = omega (arith, l.ahead); same = cc });
-    }
-
--- after the last cell
-pub left_all : (w : ℕ) (bytes : List ℕ) (k size : ℕ) (rest : List ℕ) → Left w bytes k size rest → length rest < size → k ≡ length bytes / w
-left_all w bytes k size rest l h =
-    let none : length rest / w ≡ 0 = div-eq_of_lt (subst (λ n. length rest < n) l.sized h) in
-    omega (arith, l.ahead)
 
 -- ---- the first word that is not below a limit
 
@@ -75,10 +34,6 @@ below_is limit (x ∷ xs) (suc i) h small stop =
     next : (suc i ≡ suc (length xs)) ⊎ (limit ≤ get_or xs i 0) → (i ≡ length xs) ⊎ (limit ≤ get_or xs i 0)
     next (inl e) = inl (omega arith)
     next (inr l) = inr l
-
--- the word of cell k
-abbrev pub word_of : ℕ → List ℕ → ℕ → ℕ
-word_of w bs k = number_from_digits 256 (take w (drop (k * w) bs))
 
 -- what is found is the first, where each word before it is below the limit, and it is not
 pub found_first : (limit w : ℕ) (bs : List ℕ) (found : Option ℕ)
@@ -110,20 +65,58 @@ pub some_and : {A : Type 0} (o : Option A) (y : A) (P : A → Type 0) → option
 some_and None y P e p = cc
 some_and (Some x) y P e p = p
 
--- ---- the XOR of the words in a set, one cell after another: x is the word of cell k, i the cell that is looked for in the set
+-- ---- the XOR of the words in a set
 
-xor_next : (f : ℕ → ℕ) (mask k k' i x v : ℕ) → k' ≡ k + 1 → i ≡ k → f k ≡ x → v ≡ xor_over f k mask
-    → bit_xor v (pick (has mask i) x) ≡ xor_over f k' mask
-xor_next f mask k k' i x v n s here is =
-    let next : k' ≡ suc k = n ∙ add-one k in
-    let more = xor_over_more f k mask in
-    cc
+-- where k cells have been passed: the iterator's size, the bytes that are left, and the XOR so far
+pub record Passed (w : ℕ) (bytes : List ℕ) (mask k size : ℕ) (rest : List ℕ) (v : ℕ) : Type 0 where
+  pub sized : size ≡ w
+  pub within : k * w ≤ length bytes
+  pub left : rest ≡ drop (k * w) bytes
+  pub xor : v ≡ xor_over (word_of w bytes) k mask
 
-pub xor_in_lem : (f : ℕ → ℕ) (mask k k' i x v : ℕ) → k' ≡ k + 1 → i ≡ k → f k ≡ x → v ≡ xor_over f k mask
-    → true ≡ has mask i → bit_xor v x ≡ xor_over f k' mask
-xor_in_lem f mask k k' i x v n s here is t = ap (λ b. bit_xor v (pick b x)) t ∙ xor_next f mask k k' i x v n s here is
+-- before the first cell
+pub passed_none : (w : ℕ) (bytes : List ℕ) (mask k size : ℕ) (rest : List ℕ) → size ≡ w → k ≡ 0 → rest ≡ bytes → Passed w bytes mask k size rest 0
+passed_none w bytes mask k size rest s z e =
+    let none : k * w ≡ 0 = ap (λ j. j * w) z ∙ zero-mul w in
+    record {
+      sized = s;
+      within = omega (arith, none);
+      left = e ∙ ap (λ j. drop j bytes) (sym none);
+      xor = sym (ap (λ j. xor_over (word_of w bytes) j mask) z ∙ xor_over_none (word_of w bytes) mask);
+    }
 
-pub xor_out : (f : ℕ → ℕ) (mask k k' i x v : ℕ) → k' ≡ k + 1 → i ≡ k → f k ≡ x → v ≡ xor_over f k mask
-    → false ≡ has mask i → v ≡ xor_over f k' mask
-xor_out f mask k k' i x v n s here is t =
-    sym (xor_zero_r v) ∙ (ap (λ b. bit_xor v (pick b x)) t ∙ xor_next f mask k k' i x v n s here is)
+-- one cell more, of the bytes x, which is looked for in the set as cell i
+pub passed_more : (w : ℕ) (bytes : List ℕ) (mask k k' i size size' : ℕ) (x rest rest' : List ℕ) (v v' : ℕ)
+    → Passed w bytes mask k size rest v → k' ≡ k + 1 → i ≡ k → size' ≡ size → rest ≡ x ++ rest' → length x ≡ size
+    → v' ≡ bit_xor v (pick (has mask i) (number_from_digits 256 x)) → Passed w bytes mask k' size' rest' v'
+passed_more w bytes mask k k' i size size' x rest rest' v v' p n is s e h more =
+    let xw : length x ≡ w = h ∙ p.sized in
+    let all : drop (k * w) bytes ≡ x ++ rest' = sym p.left ∙ e in
+    let next : k' * w ≡ k * w + w = ap (λ j. j * w) n ∙ omega (arith, add-mul k 1 w, one-mul w) in
+    let here : word_of w bytes k ≡ number_from_digits 256 x = ap (λ xs. number_from_digits 256 (take w xs)) all ∙ ap (number_from_digits 256) (take_at x rest' w xw) in
+    let long : length bytes - k * w ≡ w + length rest' = omega (arith, length-drop (k * w) bytes, ap length all, length-append x rest') in
+    record {
+      sized = s ∙ p.sized;
+      within = omega (arith, p.within);
+      left = sym (ap (λ j. drop j bytes) next ∙ sym (drop-drop w (k * w) bytes) ∙ ap (drop w) all ∙ drop_at x rest' w xw);
+      xor = more
+          ∙ ap₂ bit_xor p.xor (ap₂ (λ j. pick (has mask j)) is (sym here))
+          ∙ sym (xor_over_more (word_of w bytes) k mask)
+          ∙ ap (λ j. xor_over (word_of w bytes) j mask) (sym (n ∙ add-one k));
+    }
+
+-- after the last cell
+pub passed_all : (w : ℕ) (bytes : List ℕ) (mask k size : ℕ) (rest : List ℕ) (v : ℕ) → Passed w bytes mask k size rest v → length rest < size → v ≡ xor_in w bytes mask
+passed_all w bytes mask k size rest v p h =
+    let long : length bytes ≡ k * w + length rest = omega (arith, p.within, length-drop (k * w) bytes, ap length p.left) in
+    let all : length bytes / w ≡ k = ap (λ j. j / w) long ∙ div-mul-add k w (length rest) (omega (arith, p.sized)) in
+    p.xor
+    ∙ ap (λ j. xor_over (word_of w bytes) j mask) (sym all)
+    ∙ xor_over_same (word_of w bytes) _ (length bytes / w) mask (λ c l. sym (get_or_cut w (length bytes / w) bytes c l))
+
+-- what a cell in the set adds, and what another does
+pub put_in : (v b x : ℕ) (t : Bool) → true ≡ t → x ≡ b → bit_xor v x ≡ bit_xor v (pick t b)
+put_in v b x t h e = ap (λ y. bit_xor v y) e ∙ ap (λ s. bit_xor v (pick s b)) h
+
+pub left_out : (v b : ℕ) (t : Bool) → false ≡ t → v ≡ bit_xor v (pick t b)
+left_out v b t h = sym (xor_zero_r v) ∙ ap (λ s. bit_xor v (pick s b)) h

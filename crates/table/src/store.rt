@@ -12,17 +12,6 @@ use shapes::shape::Shape;
 #[derive(Clone, Copy, PartialEq, Eq, Debug)]
 pub struct WrongLength;
 
-// Copies the bytes where there is room for exactly them.
-fn put_bytes(from: &[u8], to: &mut [u8]) -> Result<(), WrongLength>
-    ensures { Stored from.now to.old result to.new }
-{
-    if to.len() != from.len() {
-        return Err(WrongLength);
-    }
-    to.copy_from_slice(from);
-    Ok(())
-}
-
 // Writes each word in as many bytes as a cell has, one word after another.
 fn put_each(shape: &Shape, words: &[u64], cells: &mut [u8])
     requires { length cells.old ≡ length words.now * width shape.now.dims }
@@ -52,7 +41,11 @@ pub fn put_header(shape: &Shape, bytes: &mut [u8]) -> Result<(), WrongLength>
         b_high,
         b_low,
     ];
-    put_bytes(&header, bytes)
+    if bytes.len() != header.len() {
+        return Err(WrongLength);
+    }
+    bytes.copy_from_slice(&header);
+    Ok(())
 }
 
 // Writes each word in as many bytes as a cell has, the high byte first, where there is room for exactly all of them.
