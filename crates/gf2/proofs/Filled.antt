@@ -8,11 +8,13 @@ use Rattle.span.specs.Marked.{Full, fulls, Marks}
 use Rattle.span.proofs.Substitute.{goes_down, solves}
 use Rattle.span.proofs.Xors.{xor_over_empty, xor_over_more}
 use Rattle.gf2.specs.Masks.{width, mask, toggled_in}
-use Rattle.gf2.specs.Fills.{words_of, word_at, Filling}
-use Rattle.gf2.specs.Rows.{There}
+use Rattle.gf2.specs.Fills.{words_of, word_at, MadeOf, Substitution, Filling}
+use Rattle.gf2.specs.Rows.{Own}
+use Rattle.gf2.specs.declared.kinds.Word.{Word}
 use Rattle.gf2.specs.declared.row.Row.{Row as Record}
 use Rattle.gf2.specs.declared.row.Block.{Block}
-use Rattle.gf2.proofs.States.{row_at}
+use Rattle.gf2.specs.declared.sets.CellSet.{CellSet}
+use Rattle.gf2.proofs.States.{own_row_at}
 use Rattle.gf2.proofs.Values.{toggled_is}
 
 -- from the cell k on the words are filled in: by substitution, in echelon form, and with zero in the free cells
@@ -49,25 +51,28 @@ module _ {K : Type 0} (view : K → Full) (marks : Marks fulls) (records : List 
   pub filled_all : (words : List ℕ) → FilledFrom 0 block.n S words → Filling view marks records block words
   filled_all words f = record { rows = λ ech. ((solves block.n S ech (word_at words)).0 (f.rows ech)).0; free = λ c cn b. f.free c zero-le cn b }
 
+  -- what a cell's row makes of it is what the block does
+  pub made_in : (own : List (Record K)) → Own records block own → (c : ℕ) (x : Record K) → c < length own → x ≡ get_or own c x
+      → (r : Record Word) → MadeOf view marks x block.bound c r → Substitution view marks records block c r
+  made_in own o c x h is r made f =
+      made f block.n
+      ∙ ap (λ (v : Row Full). pick (has (mask block.bound) c) (bit_xor (marks.word v.1) (xor_over f block.n (bit_xor v.0 (2 ^ c)))))
+      (sym (own_row_at view fulls records block own o c x h is))
+
+module _ {K : Type 0} (view : K → Full) (marks : Marks fulls) (x : Record K) (bound : CellSet) (c : ℕ) where
   -- a bound cell takes what its row's word lacks over the row's other cells
-  pub made_bound : There records block → (c : ℕ) → c < block.n → true ≡ has (mask block.bound) c
-      → (x : Record K) → x ≡ get_or records (block.start + c) x → c < width
-      → (m a : ℕ) → m ≡ toggled_in width (mask x.cells) c → a ≡ marks.word (view x.answer)
-      → (f : ℕ → ℕ) → bit_xor a (xor_over f block.n m) ≡ substituted block.n S f c
-  made_bound there c h b x is below m a toggled word f =
-      ap₂ (λ (y o : ℕ). bit_xor y (xor_over f block.n o)) word others
-      ∙ ap (λ (v : Row Full). bit_xor (marks.word v.1) (xor_over f block.n (bit_xor v.0 (2 ^ c)))) (sym (row_at view fulls records block there c x h is))
-      ∙ ap (λ (t : Bool). pick t (bit_xor (S.row c).1 (xor_over f block.n (bit_xor (S.row c).0 (2 ^ c))))) b
-    where
-      others : m ≡ bit_xor (mask x.cells) (2 ^ c)
-      others = toggled ∙ toggled_is (mask x.cells) c below
+  pub made_bound : true ≡ has (mask bound) c → c < width → (m a : ℕ) → m ≡ toggled_in width (mask x.cells) c → a ≡ marks.word (view x.answer)
+      → (f : ℕ → ℕ) (n : ℕ) → bit_xor a (xor_over f n m) ≡ pick (has (mask bound) c) (bit_xor (marks.word (view x.answer)) (xor_over f n (bit_xor (mask x.cells) (2 ^ c))))
+  made_bound b below m a toggled word f n =
+      ap₂ (λ (y o : ℕ). bit_xor y (xor_over f n o)) word (toggled ∙ toggled_is (mask x.cells) c below)
+      ∙ ap (λ (t : Bool). pick t (bit_xor (marks.word (view x.answer)) (xor_over f n (bit_xor (mask x.cells) (2 ^ c))))) b
 
   -- a free cell has zero
-  pub made_free : (c : ℕ) → false ≡ has (mask block.bound) c → (m : ℕ) → m ≡ 0
-      → (f : ℕ → ℕ) → xor_over f block.n m ≡ substituted block.n S f c
-  made_free c b m none f =
-      ap (xor_over f block.n) none ∙ xor_over_empty f block.n
-      ∙ ap (λ (t : Bool). pick t (bit_xor (S.row c).1 (xor_over f block.n (bit_xor (S.row c).0 (2 ^ c))))) b
+  pub made_free : false ≡ has (mask bound) c → (m : ℕ) → m ≡ 0
+      → (f : ℕ → ℕ) (n : ℕ) → xor_over f n m ≡ pick (has (mask bound) c) (bit_xor (marks.word (view x.answer)) (xor_over f n (bit_xor (mask x.cells) (2 ^ c))))
+  made_free b m none f n =
+      ap (xor_over f n) none ∙ xor_over_empty f n
+      ∙ ap (λ (t : Bool). pick t (bit_xor (marks.word (view x.answer)) (xor_over f n (bit_xor (mask x.cells) (2 ^ c))))) b
 
 -- one word more of an XOR over a set
 pub xor_more : (words : List ℕ) (m k total : ℕ) → total ≡ xor_over (word_at words) k m → (b : Bool) → b ≡ has m k

@@ -1,5 +1,5 @@
 -- The records of a block as a state: a reduction after the cells below k, and a record written.
-use Rattle.std.proofs.Common.{◌≡◌, ℕ, suc, ◌+◌, ◌<◌, ◌≤◌, List, map, get_or, set, sym, refl, ap, ◌∙◌, subst, true≢false, arith, get_or-set_other, get_or-set_same}
+use Rattle.std.proofs.Common.{◌≡◌, ℕ, suc, ◌+◌, ◌<◌, ◌≤◌, List, map, length, drop, length-take, length-drop, get_or-drop, get_or-take, get_or, set, sym, refl, ap, ◌∙◌, subst, true≢false, arith, get_or-set_other, get_or-set_same}
 use Rattle.std.proofs.lemmas.List.{map-set, length-map, get_or-map}
 use Rattle.span.specs.Sets.{has}
 use Rattle.span.specs.Lead.{Lead}
@@ -9,7 +9,7 @@ use Rattle.span.proofs.Bits.{has_zero}
 use Rattle.span.proofs.Lead.{lead_has, lead_one}
 use Rattle.span.proofs.Reduce.{added_none, added_row, clear_start, clear_skip, clear_add}
 use Rattle.gf2.specs.Masks.{mask, FirstCommon, PutIn}
-use Rattle.gf2.specs.Rows.{row_of, state_of, block_of, There, Binding}
+use Rattle.gf2.specs.Rows.{row_of, state_of, block_of, There, Own, Binding}
 use Rattle.gf2.specs.declared.row.Row.{Row as Record}
 use Rattle.gf2.specs.declared.row.Block.{Block}
 
@@ -21,6 +21,17 @@ module _ {K A : Type 0} (mean : K → A) (kind : Kind A) (records : List (Record
   pub row_at : There records block → (c : ℕ) (x : Record K) → c < block.n → x ≡ get_or records (block.start + c) x → (block_of mean kind records block).row c ≡ row_of mean x
   row_at there c x h e = get_or-map (row_of mean) records (block.start + c) x (rows kind).none (omega arith) ∙ ap (row_of mean) (sym e)
 
+  -- there are as many own rows as cells
+  pub count : (own : List (Record K)) → Own records block own → length own ≡ block.n
+  count own o = ap length o.are ∙ omega (arith, o.there, length-take block.n (drop block.start records), length-drop block.start records)
+
+  -- the row of a cell is its own row
+  pub own_row_at : (own : List (Record K)) → Own records block own → (c : ℕ) (x : Record K) → c < length own → x ≡ get_or own c x → (block_of mean kind records block).row c ≡ row_of mean x
+  own_row_at own o c x h e =
+      let in_block : c < block.n = omega (arith, count own o) in
+      row_at o.there c x in_block
+      (e ∙ ap (λ (l : List (Record K)). get_or l c x) o.are ∙ get_or-take block.n (drop block.start records) c x in_block ∙ get_or-drop block.start records c x)
+
   -- r is q with bound rows added to it; in echelon form, it holds no bound cell below k
   pub record Upto (q r : Record K) (k : ℕ) : Type 0 where
     pub added : Added kind block.n S (row_of mean q) (row_of mean r)
@@ -31,23 +42,26 @@ module _ {K A : Type 0} (mean : K → A) (kind : Kind A) (records : List (Record
   upto_start q = record { added = added_none kind block.n S (row_of mean q); clear = λ _. clear_start S (mask q.cells) }
 
   -- the row of the first bound cell from k on was added
-  pub upto_add : There records block → (w : ℕ) (q r : Record K) (k c : ℕ) → Upto q r k → FirstCommon w (mask r.cells) (mask block.bound) k c → c < block.n
-      → (x : Record K) → x ≡ get_or records (block.start + c) x → (s : Record K) → row_of mean s ≡ (rows kind).sum (row_of mean r) (row_of mean x) → Upto q s (c + 1)
-  upto_add there w q r k c u f h x is s sum = record {
+  pub upto_add : (own : List (Record K)) → Own records block own → (w : ℕ) (q r : Record K) (k c : ℕ) → Upto q r k → FirstCommon w (mask r.cells) (mask block.bound) k c
+      → c < length own → (x : Record K) → x ≡ get_or own c x → (s : Record K) → row_of mean s ≡ (rows kind).sum (row_of mean r) (row_of mean x) → Upto q s (c + 1)
+  upto_add own o w q r k c u f h x is s sum = record {
     added =
         subst (Added kind block.n S (row_of mean q))
         (ap ((rows kind).sum (row_of mean r)) at ∙ sym sum)
-        (added_row kind block.n S c h f.right (row_of mean q) (row_of mean r) u.added);
+        (added_row kind block.n S c in_block f.right (row_of mean q) (row_of mean r) u.added);
     clear = λ ech.
         let here : Clear c S (mask r.cells) = clear_skip S k c (mask r.cells) (u.clear ech) f.none_before in
-        let lead : Lead (mask x.cells) c = subst (λ (v : Row A). Lead v.0 c) at (ech c h f.right).0 in
+        let lead : Lead (mask x.cells) c = subst (λ (v : Row A). Lead v.0 c) at (ech c in_block f.right).0 in
         let next : c + 1 ≡ suc c = omega arith in
         subst (λ (j : ℕ). Clear j S (mask s.cells)) (sym next)
         (subst (Clear (suc c) S) (sym (ap (λ (v : Row A). v.0) sum)) (clear_add S c (mask r.cells) (mask x.cells) here lead f.left));
   }
     where
+      in_block : c < block.n
+      in_block = omega (arith, count own o)
+
       at : (block_of mean kind records block).row c ≡ row_of mean x
-      at = row_at there c x h is
+      at = own_row_at own o c x h is
 
   -- a record written where its cell is put into the bound set is a row put there
   written_put : There records block → (c : ℕ) (row : Record K) (bound' : ℕ) → c < block.n → PutIn (mask block.bound) c bound'

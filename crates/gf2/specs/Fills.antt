@@ -1,7 +1,8 @@
 -- Reading out the words of a block.
-use Rattle.std.specs.Prelude.{◌≡◌, ℕ, ◌<◌, ◌≤◌, List, length, bit_xor, slice_index, Result, IsOk, OnOk, OnErr}
+use Rattle.std.specs.Prelude.{◌≡◌, ℕ, ◌^◌, ◌<◌, ◌≤◌, List, length, bit_xor, slice_index, Result, IsOk, OnOk, OnErr}
+use Rattle.span.specs.Sets.{has}
 use Rattle.span.specs.Echelon.{State, Echelon}
-use Rattle.span.specs.Fillings.{xor_over, SatisfiesRows, ZeroInFree, substituted}
+use Rattle.span.specs.Fillings.{pick, xor_over, SatisfiesRows, ZeroInFree, substituted}
 use Rattle.span.specs.Marked.{Full, fulls, Marks, word_state}
 use Rattle.gf2.specs.Masks.{mask}
 use Rattle.gf2.specs.Rows.{block_of, There}
@@ -9,6 +10,7 @@ use Rattle.gf2.specs.declared.elimination.rows.Misfit.{Misfit}
 use Rattle.gf2.specs.declared.kinds.Word.{Word}
 use Rattle.gf2.specs.declared.row.Row.{Row as Record}
 use Rattle.gf2.specs.declared.row.Block.{Block}
+use Rattle.gf2.specs.declared.sets.CellSet.{CellSet}
 
 -- The words of a block's rows, as a state.
 abbrev pub words_of : {K : Type 0} → (K → Full) → Marks fulls → List (Record K) → Block → State ℕ
@@ -22,6 +24,11 @@ word_at words c = slice_index words c
 abbrev pub Substitution : {K : Type 0} → (K → Full) → Marks fulls → List (Record K) → Block → ℕ → Record Word → Type 0
 Substitution view marks records block c r =
     (f : ℕ → ℕ) → bit_xor r.answer.0 (xor_over f block.n (mask r.cells)) ≡ substituted block.n (words_of view marks records block) f c
+
+-- The same, said of the cell's row and of any number of words.
+abbrev pub MadeOf : {K : Type 0} → (K → Full) → Marks fulls → Record K → CellSet → ℕ → Record Word → Type 0
+MadeOf view marks row bound c r =
+    (f : ℕ → ℕ) (n : ℕ) → bit_xor r.answer.0 (xor_over f n (mask r.cells)) ≡ pick (has (mask bound) c) (bit_xor (marks.word (view row.answer)) (xor_over f n (bit_xor (mask row.cells) (2 ^ c))))
 
 -- The same of a cell that is there.
 abbrev pub SubstitutionIn : {K : Type 0} → (K → Full) → Marks fulls → List (Record K) → Block → ℕ → Record Word → Type 0

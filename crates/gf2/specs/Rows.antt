@@ -1,5 +1,5 @@
 -- What rows in memory stand for, and what is done to them.
-use Rattle.std.specs.Prelude.{◌≡◌, ℕ, ◌+◌, ◌<◌, ◌≤◌, List, map, length, slice_index_or, slice_set}
+use Rattle.std.specs.Prelude.{◌≡◌, ℕ, ◌+◌, ◌<◌, ◌≤◌, List, map, length, take, drop, slice_index_or, slice_set}
 use Rattle.span.specs.Sets.{has}
 use Rattle.span.specs.Lead.{Lead}
 use Rattle.span.specs.Kinds.{Kind}
@@ -23,6 +23,11 @@ block_of mean kind records block = state_of mean kind records block.start (mask 
 -- The block's rows are all there.
 abbrev pub There : {K : Type 0} → List (Record K) → Block → Type 0
 There records block = block.start + block.n ≤ length records
+
+-- The block's rows are all there, and these are they.
+pub record Own {K : Type 0} (records : List (Record K)) (block : Block) (own : List (Record K)) : Type 0 where
+  pub there : There records block
+  pub are : own ≡ take block.n (drop block.start records)
 
 -- Some of the block's rows are not there.
 abbrev pub Missing : {K : Type 0} → List (Record K) → Block → Type 0

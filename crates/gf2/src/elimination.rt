@@ -1,32 +1,41 @@
 // The elimination in one block, on a slice of records: reducing a row, binding it, and reading out the words.
-ghost use Rattle.std.specs.Prelude.{◌≡◌, ◌<◌, length};
+ghost use Rattle.std.specs.Prelude.{◌≡◌, ◌<◌, length, MatchOption};
 ghost use Rattle.gf2.specs.Masks.{width, mask, PutIn};
-ghost use Rattle.gf2.specs.Rows.{There, Reduction, Binding};
+ghost use Rattle.gf2.specs.Rows.{Missing, Own, Reduction, BindingIn};
 ghost use Rattle.span.specs.Fillings.{xor_over};
-ghost use Rattle.gf2.specs.Fills.{word_at, Substitution, Filling};
+ghost use Rattle.gf2.specs.Fills.{word_at, NoCell, MadeOf, SubstitutionIn, FillingIn};
 
 use crate::kinds::{Answer, Word};
 use crate::marked::Marked;
 use crate::row::{Block, Row};
 use crate::sets::CellSet;
+use rows::Misfit;
 
 pub mod rows;
 
-// Adds to the row the row of each bound cell that it comes to hold, going from one such cell to the next.
-fn reduce<K: Answer>(records: &[Row<K>], block: Block, row: Row<K>) -> Row<K>
-    requires there { There records.now block }
-    ensures { Reduction K.Answer.mean K.Answer.kind records.now block row result }
+// The block's own rows, one for each cell; none where they are not all there.
+fn own_rows<K>(records: &[Row<K>], block: Block) -> Option<&[Row<K>]>
+    ensures { MatchOption result (Missing records.now block) (λ own. Own records.now block own.now) }
 {
+    records.get(block.start..)?.get(..block.n)
+}
+
+// Adds to the row the row of each bound cell that it comes to hold, going from one such cell to the next.
+fn reduce<K: Answer>(records: &[Row<K>], block: Block, row: Row<K>) -> Option<Row<K>>
+    ensures { MatchOption result (Missing records.now block) (Reduction K.Answer.mean K.Answer.kind records.now block row) }
+{
+    let own = own_rows(records, block)?;
     let mut left = row;
     let mut from = 0;
+    // Each sum changes which cells there are: the next one is looked for anew, past the last.
     while let Some(cell) = left.cells.first_common(block.bound, from) {
-        if cell >= block.n {
-            return left;
+        if cell >= own.len() {
+            return Some(left);
         }
-        left = left.plus(records[block.start + cell]);
+        left = left.plus(own[cell]);
         from = cell + 1;
     }
-    left
+    Some(left)
 }
 
 // The set with the cell put in.
@@ -43,19 +52,17 @@ fn with(set: CellSet, cell: usize) -> CellSet
 
 // Writes the row at its lead cell, and gives the bound set with that cell.
 fn bind<K: Answer>(records: &mut [Row<K>], block: Block, row: Row<K>) -> CellSet
-    requires there { There records.old block }
-    ensures { Binding K.Answer.mean K.Answer.kind records.old block row records.new (mask result) }
+    ensures { BindingIn K.Answer.mean K.Answer.kind records.old block row records.new (mask result) }
 {
+    if own_rows(records, block).is_none() {
+        return block.bound;
+    }
     match row.cells.lead() {
-        Some(cell) => {
-            if cell < block.n {
-                records[block.start + cell] = row;
-                with(block.bound, cell)
-            } else {
-                block.bound
-            }
+        Some(cell) if cell < block.n => {
+            records[block.start + cell] = row;
+            with(block.bound, cell)
         }
-        None => block.bound,
+        _ => block.bound,
     }
 }
 
@@ -75,13 +82,10 @@ fn xor_over(words: &[u64], cells: CellSet) -> u64
 }
 
 // What the word of a cell is made of: the other cells of its row, and its row's word; nothing where the cell is free.
-fn substitute<K: Marked>(records: &[Row<K>], block: Block, cell: usize) -> Row<Word>
-    requires there { There records.now block }
-    requires among { cell < block.n }
-    ensures { Substitution K.Marked.view K.Marked.marks records.now block cell result }
+fn made_of<K: Marked>(row: Row<K>, bound: CellSet, cell: usize) -> Row<Word>
+    ensures { MadeOf K.Marked.view K.Marked.marks row bound cell result }
 {
-    if block.bound.contains(cell) {
-        let row = records[block.start + cell];
+    if bound.contains(cell) {
         Row {
             cells: row.cells.toggled(cell),
             answer: Word(row.answer.word()),
@@ -94,14 +98,27 @@ fn substitute<K: Marked>(records: &[Row<K>], block: Block, cell: usize) -> Row<W
     }
 }
 
-// Writes a word for each cell: those that satisfy every bound row, with zero in the free cells.
-fn fill<K: Marked>(records: &[Row<K>], block: Block, words: &mut [u64])
-    requires there { There records.now block }
-    requires long { length words.old ≡ block.n }
-    ensures { Filling K.Marked.view K.Marked.marks records.now block words.new }
+// The same of a cell of the block; none where it has no such cell, or its rows are not all there.
+fn substitute<K: Marked>(records: &[Row<K>], block: Block, cell: usize) -> Option<Row<Word>>
+    ensures { MatchOption result (NoCell records.now block cell) (SubstitutionIn K.Marked.view K.Marked.marks records.now block cell) }
 {
-    for cell in (0..block.n).rev() {
-        let row = substitute(records, block, cell);
+    let own = own_rows(records, block)?;
+    let row = own.get(cell)?;
+    Some(made_of(*row, block.bound, cell))
+}
+
+// Writes a word for each cell: those that satisfy every bound row, with zero in the free cells.
+fn fill<K: Marked>(records: &[Row<K>], block: Block, words: &mut [u64]) -> Result<(), Misfit>
+    ensures { FillingIn K.Marked.view K.Marked.marks records.now block words.old result words.new }
+{
+    let own = own_rows(records, block).ok_or(Misfit)?;
+    if words.len() != own.len() {
+        return Err(Misfit);
+    }
+    // By number: each word is made of all words behind it.
+    for cell in (0..own.len()).rev() {
+        let row = made_of(own[cell], block.bound, cell);
         words[cell] = row.answer.0 ^ xor_over(words, row.cells);
     }
+    Ok(())
 }

@@ -1,5 +1,5 @@
 // The rows of all blocks, in memory that is lent.
-ghost use Rattle.std.specs.Prelude.{◌≡◌, ◌+◌, ◌<◌, ◌≤◌, true, false, length, MatchOption};
+ghost use Rattle.std.specs.Prelude.{◌≡◌, length, MatchOption};
 ghost use Rattle.gf2.specs.Fills.{NoCell, SubstitutionIn, FillingIn};
 ghost use Rattle.gf2.specs.Masks.{mask};
 ghost use Rattle.gf2.specs.Rows.{Missing, Reduction, BindingIn};
@@ -40,11 +40,7 @@ impl<'a, K: Answer> Rows<'a, K> {
     pub fn reduce(&self, block: Block, row: Row<K>) -> Option<Row<K>>
         ensures { MatchOption result (Missing self.now.records.now block) (Reduction K.Answer.mean K.Answer.kind self.now.records.now block row) }
     {
-        if is_there(self.len(), block) {
-            Some(elimination::reduce(self.records, block, row))
-        } else {
-            None
-        }
+        elimination::reduce(self.records, block, row)
     }
 
     // Puts the row at its lead cell, and gives the block's bound set with that cell.
@@ -53,11 +49,7 @@ impl<'a, K: Answer> Rows<'a, K> {
         ensures lent { self.new.records.ghost_name ≡ self.old.records.ghost_name }
         ensures bound { BindingIn K.Answer.mean K.Answer.kind self.old.records.now block row self.new.records.now (mask result) }
     {
-        if is_there(self.len(), block) {
-            elimination::bind(self.records, block, row)
-        } else {
-            block.bound
-        }
+        elimination::bind(self.records, block, row)
     }
 }
 
@@ -66,11 +58,7 @@ impl<'a, K: Marked> Rows<'a, K> {
     pub fn substitute(&self, block: Block, cell: usize) -> Option<Row<Word>>
         ensures { MatchOption result (NoCell self.now.records.now block cell) (SubstitutionIn K.Marked.view K.Marked.marks self.now.records.now block cell) }
     {
-        if is_there(self.len(), block) && cell < block.n {
-            Some(elimination::substitute(self.records, block, cell))
-        } else {
-            None
-        }
+        elimination::substitute(self.records, block, cell)
     }
 
     // Writes a word for each cell of the block: those that satisfy every bound row, with zero in the free cells.
@@ -78,19 +66,6 @@ impl<'a, K: Marked> Rows<'a, K> {
     pub fn fill(&self, block: Block, words: &mut [u64]) -> Result<(), Misfit>
         ensures { FillingIn K.Marked.view K.Marked.marks self.now.records.now block words.old result words.new }
     {
-        if is_there(self.len(), block) && words.len() == block.n {
-            elimination::fill(self.records, block, words);
-            Ok(())
-        } else {
-            Err(Misfit)
-        }
+        elimination::fill(self.records, block, words)
     }
-}
-
-// Whether a slice of this length has all rows of the block.
-fn is_there(len: usize, block: Block) -> bool
-    ensures yes { result ≡ true → block.start + block.n ≤ len }
-    ensures no { result ≡ false → len < block.start + block.n }
-{
-    block.start <= len && block.n <= len - block.start
 }

@@ -7,6 +7,6 @@ loop-cell-init g c = upto_start g.K.Answer.mean g.K.Answer.kind c.args.records.n
 
 pub loop-cell-preserved : goal.loop-cell-preserved
 loop-cell-preserved g c =
-    upto_add g.K.Answer.mean g.K.Answer.kind c.args.records.now c.args.block c.requires.there width c.args.row c.loop-cell.left
-    c.loop-cell.from c.in-Some.cell c.loop-cell.invariant c.in-Some.ensures c.if-cell-block.false
-    c.index-records-block.result c.index-records-block.is c.plus-left.result c.plus-left.ensures
+    upto_add g.K.Answer.mean g.K.Answer.kind c.args.records.now c.args.block c.in_ok-own.own.now c.in_ok-own.ensures width c.args.row c.loop-cell.left
+    c.loop-cell.from c.in-Some.cell c.loop-cell.invariant c.in-Some.ensures c.if-cell-own.false
+    c.index-own-cell.result c.index-own-cell.is c.plus-left.result c.plus-left.ensures
