@@ -124,20 +124,21 @@ mod tests {
         Ok(())
     }
 
-    #[test]
-    fn full_rows_name_the_slots(rt: HostRuntime) -> Result<(), Fail> {
+    fn each_comes_next<K: Marked>(rt: &impl Abort, named: bool) -> Result<(), Fail> {
         for case in NEXT {
-            comes_next(&rt, &mut [old::<Full>(); 4], case, true)?;
+            comes_next(rt, &mut [old::<K>(); 4], case, named)?;
         }
         Ok(())
     }
 
     #[test]
+    fn full_rows_name_the_slots(rt: HostRuntime) -> Result<(), Fail> {
+        each_comes_next::<Full>(&rt, true)
+    }
+
+    #[test]
     fn lean_rows_name_none(rt: HostRuntime) -> Result<(), Fail> {
-        for case in NEXT {
-            comes_next(&rt, &mut [old::<Word>(); 4], case, false)?;
-        }
-        Ok(())
+        each_comes_next::<Word>(&rt, false)
     }
 
     // Both draws fall on the only cell, so that no cell is left.

@@ -9,6 +9,7 @@ use std::error::Error;
 use std::fmt;
 
 // Why and where a reader turns a key down, and how many layers stand above the reader that did so, up to 255.
+// The reason is a number and no enum: readers of other makers have reasons of their own, and firmware in C switches over it.
 #[derive(Clone, Copy, PartialEq, Eq, Debug)]
 pub struct Refusal {
     pub reason: u16,
