@@ -18,7 +18,7 @@ fn put_each(shape: &Shape, words: &[u64], cells: &mut [u8])
     ensures { cells.new ≡ flat_map (bytes_of (width shape.now.dims)) words.now }
 {
     let width = sizes::cell_width(shape);
-    // By index: what is written through `chunks_exact_mut` is not known afterwards.
+    // By index: what is written through `chunks_exact_mut` or `split_at_mut` is not known after the loop.
     for (i, word) in words.iter().enumerate() {
         cells[i * width..(i + 1) * width].copy_from_slice(&word.to_be_bytes()[8 - width..]);
     }
