@@ -43,7 +43,7 @@ pub fn first_large(cells: &[u8], shape: &Shape) -> Option<usize>
         .position(|cell| !fits(word(cell), shape))
 }
 
-// The XOR of the words in cells of these many bytes that are in the set. It is a loop, as was asked for (docs/DECISIONS.md).
+// The XOR of the words in cells of these many bytes that are in the set: docs/DECISIONS.md binds it to a loop.
 fn xor_records(block: &[u8], width: usize, cells: CellSet) -> u64
     requires { (1 ≤ width) × (width ≤ 8) }
     ensures { result ≡ xor_in width block.now (mask cells) }
