@@ -1,6 +1,6 @@
 -- The first cell that is in both of two sets, word by word.
-use Rattle.std.proofs.Common.{◌≡◌, ℕ, ◌+◌, ◌-◌, ◌*◌, ◌/◌, ◌%◌, ◌^◌, ◌<◌, ◌≤◌, Bool, true, false, cond, List, length, get_or, bit_and, drop, zip, length-drop, zero-add, sym, refl, ap, ◌∙◌, subst, ap₂, inl, inr, true≢false, arith, Iter}
-use Rattle.std.proofs.lemmas.Bool.{cases_lt}
+use Rattle.std.proofs.Common.{◌≡◌, ℕ, ◌+◌, ◌-◌, ◌*◌, ◌/◌, ◌%◌, ◌^◌, ◌<◌, ◌≤◌, Bool, true, false, ◌&&◌, List, length, get_or, bit_and, drop, zip, length-drop, zero-add, sym, refl, ap, ◌∙◌, subst, ap₂, inl, inr, true≢false, arith, Iter}
+use Rattle.std.proofs.lemmas.Bool.{cases_lt, and_parts}
 use Rattle.std.proofs.lemmas.Nat.{and_le_l, shr_le}
 use Rattle.std.specs.Int.Count.{count_trailing_zeros}
 use Rattle.std.proofs.lemmas.List.{get_or-drop, get_or_default}
@@ -21,18 +21,10 @@ use Rattle.span.proofs.Bits.{has_and, has_past, has_shifted, has_zero}
 use Rattle.gf2.specs.Masks.{Fit, value, NoCommon, FirstCommon}
 use Rattle.gf2.proofs.Values.{small, has_words, past, trail}
 
--- two truth values, both true or not
-not_both : (p q : Bool) → cond p q false ≡ false → q ≡ true → p ≡ false
+-- of two truth values that are not both true, the first is false where the second is true
+not_both : (p q : Bool) → (p && q) ≡ false → q ≡ true → p ≡ false
 not_both true q e t = absurd (true≢false (sym t ∙ e))
 not_both false q e t = refl
-
-both_left : (p q : Bool) → cond p q false ≡ true → p ≡ true
-both_left true q e = refl
-both_left false q e = absurd (true≢false (sym e))
-
-both_right : (p q : Bool) → cond p q false ≡ true → q ≡ true
-both_right true q e = e
-both_right false q e = absurd (true≢false (sym e))
 
 -- where one stretch after another has no common cell, neither has both
 pub no_common_on : (a b i j k : ℕ) → NoCommon a b i j → NoCommon a b j k → NoCommon a b i k
@@ -51,13 +43,13 @@ module _ (ws vs : List ℕ) (fits : Fit ws) (fits' : Fit vs) (i s : ℕ) (low : 
   common = bit_and (get_or ws i 0) (get_or vs i 0) / 2 ^ s
 
   -- a place of that word, from there on
-  common_has : (c : ℕ) → 64 * i + s ≤ c → c / 64 ≡ i → has common (c % 64 - s) ≡ cond (has (value ws) c) (has (value vs) c) false
+  common_has : (c : ℕ) → 64 * i + s ≤ c → c / 64 ≡ i → has common (c % 64 - s) ≡ (has (value ws) c && has (value vs) c)
   common_has c h q =
       let x : ℕ = get_or ws i 0 in
       let y : ℕ = get_or vs i 0 in
       let e : s + (c % 64 - s) ≡ c % 64 = omega arith in
       has_shifted (bit_and x y) s (c % 64 - s) ∙ ap (has (bit_and x y)) e ∙ has_and x y (c % 64)
-      ∙ sym (ap₂ (λ (p r : Bool). cond p r false)
+      ∙ sym (ap₂ (λ (p r : Bool). p && r)
       (has_words ws (small ws fits) c ∙ ap (λ (k : ℕ). has (get_or ws k 0) (c % 64)) q)
       (has_words vs (small vs fits') c ∙ ap (λ (k : ℕ). has (get_or vs k 0) (c % 64)) q))
 
@@ -94,12 +86,12 @@ module _ (ws vs : List ℕ) (fits : Fit ws) (fits' : Fit vs) (i s : ℕ) (low : 
       let h : 64 * i + s ≤ c = omega arith in
       let q : c / 64 ≡ i = omega arith in
       let d : c % 64 - s ≡ t = omega arith in
-      let both : cond (has (value ws) c) (has (value vs) c) false ≡ true = sym (common_has c h q) ∙ ap (has common) d ∙ tr.1.0 in
+      let both : (has (value ws) c && has (value vs) c) ≡ true = sym (common_has c h q) ∙ ap (has common) d ∙ tr.1.0 in
       record {
         below = omega arith;
         from_on = h;
-        left = both_left (has (value ws) c) (has (value vs) c) both;
-        right = both_right (has (value ws) c) (has (value vs) c) both;
+        left = (and_parts (has (value ws) c) (has (value vs) c) both).0;
+        right = (and_parts (has (value ws) c) (has (value vs) c) both).1;
         none_before = λ d from to.
             let q' : d / 64 ≡ i = omega arith in
             let lower : d % 64 - s < t = omega arith in

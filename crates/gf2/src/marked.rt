@@ -1,5 +1,5 @@
 // Answer kinds that have a word, and in which the slot of an entry can be marked.
-ghost use Rattle.std.specs.Prelude.{◌≡◌, ℕ, ◌+◌, ◌/◌, ◌^◌, List, if◌then◌else◌, bit_xor, nat_lt, refl};
+ghost use Rattle.std.specs.Prelude.{◌≡◌, ℕ, ◌+◌, ◌/◌, List, if◌then◌else◌, nat_lt, refl};
 ghost use Rattle.span.specs.Echelon.{Row as SpanRow};
 ghost use Rattle.span.specs.Marked.{Full, fulls, Marks, full_marks, lean_marks, Blames, NoSlots};
 ghost use Rattle.span.specs.Slots.{ConflictSet};
@@ -82,13 +82,6 @@ impl Marked for Word {
     }
 }
 
-// The set with the mark of the slot added.
-fn marked_in(slots: CellSet, slot: usize) -> CellSet
-    ensures { mask result ≡ (if nat_lt slot width then bit_xor (2 ^ slot) (mask slots) else mask slots) }
-{
-    slots.toggled(slot)
-}
-
 // Words with slot sets.
 impl Marked for Pair<Word, CellSet> {
     ghost view = { λ p. (p.left.0, mask p.right) };
@@ -115,10 +108,11 @@ impl Marked for Pair<Word, CellSet> {
         self.left.0
     }
 
+    #[tactic(auto, using(std::proofs::lemmas::Nat::xor_comm))]
     fn marked(self, slot: usize) -> Pair<Word, CellSet> {
         Pair {
             left: self.left,
-            right: marked_in(self.slots(), slot),
+            right: self.right.toggled(slot),
         }
     }
 

@@ -1,5 +1,5 @@
 // Sets of cells, or of slots.
-ghost use Rattle.std.specs.Prelude.{◌≡◌, ◌*◌, ◌≤◌, true, length, MatchOption, bit_xor};
+ghost use Rattle.std.specs.Prelude.{◌≡◌, ◌*◌, true, length, MatchOption, bit_xor};
 ghost use Rattle.span.specs.Lead.{Lead};
 ghost use Rattle.span.specs.Sets.{has, Lowest};
 ghost use Rattle.gf2.specs.Masks.{width, value, mask, toggled_in, NoneCommon, FirstCommon};
@@ -15,19 +15,13 @@ pub struct CellSet {
     words: [u64; WORDS],
 }
 
-// The words of no cell.
-fn no_bits() -> [u64; WORDS]
-    ensures { value result ≡ 0 }
-{
-    [0; WORDS]
-}
-
 impl CellSet {
     // The set with no cell.
+    #[tactic(auto, unfolding(crate::specs::Masks::value))]
     pub fn empty() -> CellSet
         ensures { mask result ≡ 0 }
     {
-        CellSet { words: no_bits() }
+        CellSet { words: [0; WORDS] }
     }
 
     // The set with the cell put in, or taken out where it was in; a cell past the last changes nothing.

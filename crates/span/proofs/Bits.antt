@@ -1,5 +1,5 @@
 -- Laws of membership.
-use Rattle.std.proofs.Common.{◌≡◌, ℕ, zero, suc, ◌+◌, ◌-◌, ◌/◌, ◌%◌, ◌^◌, ◌<◌, ◌≤◌, Bool, true, false, cond, ◌⊎◌, bit_and, bit_xor, sym, refl, ap, ◌∙◌, subst, ap₂, inl, inr, true≢false, not-suc-le-zero, mod-lt, zero-lt-suc, pow-suc, div-one, arith, pow_pos, pow-add, shr-shr}
+use Rattle.std.proofs.Common.{◌≡◌, ℕ, zero, suc, ◌+◌, ◌-◌, ◌/◌, ◌%◌, ◌^◌, ◌<◌, ◌≤◌, Bool, true, false, ◌&&◌, ◌⊎◌, bit_and, bit_xor, sym, refl, ap, ◌∙◌, subst, ap₂, inl, inr, true≢false, not-suc-le-zero, mod-lt, zero-lt-suc, pow-suc, div-one, arith, pow_pos, pow-add, shr-shr}
 use Rattle.std.proofs.Math.Arith.{bin_ind}
 use Rattle.std.proofs.Math.Decide.{ℕ_discrete as dec_eq, dec_lt}
 use Rattle.std.proofs.Math.Nat.{zero-div, div_self, div-eq_of_lt, mul-mod_left}
@@ -25,7 +25,7 @@ has_xor a b c =
     ∙ digit_xor (a / 2 ^ c % 2) (b / 2 ^ c % 2) (mod-lt (a / 2 ^ c) (zero-lt-suc 1)) (mod-lt (b / 2 ^ c) (zero-lt-suc 1))
 
 -- two digits, both of them one
-digit_and : (x y : ℕ) → x < 2 → y < 2 → is_one (bit_and x y) ≡ cond (is_one x) (is_one y) false
+digit_and : (x y : ℕ) → x < 2 → y < 2 → is_one (bit_and x y) ≡ (is_one x && is_one y)
 digit_and zero y hx hy = refl
 digit_and (suc zero) zero hx hy = refl
 digit_and (suc zero) (suc zero) hx hy = refl
@@ -33,7 +33,7 @@ digit_and (suc zero) (suc (suc y)) hx hy = absurd (omega arith)
 digit_and (suc (suc x)) y hx hy = absurd (omega arith)
 
 -- what both of two sets hold
-pub has_and : (a b c : ℕ) → has (bit_and a b) c ≡ cond (has a c) (has b c) false
+pub has_and : (a b c : ℕ) → has (bit_and a b) c ≡ (has a c && has b c)
 unfolding has
 has_and a b c =
     ap (λ (x : ℕ). is_one (x % 2)) (and_shr a b c)
