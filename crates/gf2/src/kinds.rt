@@ -27,7 +27,7 @@ pub trait Answer: Copy {
 }
 
 // A word under XOR.
-#[derive(Clone, Copy)]
+#[derive(Clone, Copy, PartialEq, Eq, Debug)]
 pub struct Word(pub u64);
 
 impl Answer for Word {
@@ -72,7 +72,7 @@ impl Answer for CellSet {
 }
 
 // Two kinds side by side.
-#[derive(Clone, Copy)]
+#[derive(Clone, Copy, PartialEq, Eq, Debug)]
 pub struct Pair<L, R> {
     pub left: L,
     pub right: R,

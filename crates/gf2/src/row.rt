@@ -7,7 +7,7 @@ use crate::kinds::Answer;
 use crate::sets::CellSet;
 
 // A cell set with an answer.
-#[derive(Clone, Copy)]
+#[derive(Clone, Copy, PartialEq, Eq, Debug)]
 pub struct Row<K> {
     pub cells: CellSet,
     pub answer: K,
@@ -26,7 +26,7 @@ impl<K: Answer> Row<K> {
 }
 
 // One block among the records: the rows of its n cells stand one after another, from `start` on; those of the bound cells count.
-#[derive(Clone, Copy)]
+#[derive(Clone, Copy, PartialEq, Eq, Debug)]
 pub struct Block {
     pub start: usize,
     pub n: usize,

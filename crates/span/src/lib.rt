@@ -12,16 +12,6 @@ pub trait AnswerKind: Sized {
     ghost kind: { Kind Value };
 }
 
-// A theorem about every answer kind with words and marks is about every one of these.
-// No bound of `AnswerKind`, since `marks` would then name a bound's member, which makes it a law, and no clause can name a law.
-pub trait MarkedKind: Sized {
-    ghost Value: { Type 0 };
-
-    ghost kind: { Kind Value };
-
-    ghost marks: { Marks kind };
-}
-
 // The XOR of two sets, as numbers, is their symmetric difference.
 pub fn xor_is_difference()
     ensures { XorIsDifference }
@@ -113,33 +103,39 @@ pub fn run_is_held()
 {}
 
 // A state with no bound cell stands for nothing held, whatever its rows hold.
-pub fn open_stands<K: MarkedKind>()
-    ensures { OpenStands K.MarkedKind.marks }
+pub fn open_stands<K: AnswerKind>()
+    ghost marks: { Marks K.AnswerKind.kind }
+    ensures { OpenStands marks }
 {}
 
 // The reduction decides between slot, dependent and conflict: for words alone, and for words with slot sets.
-pub fn decides<K: MarkedKind>()
-    ensures { Decides K.MarkedKind.marks }
+pub fn decides<K: AnswerKind>()
+    ghost marks: { Marks K.AnswerKind.kind }
+    ensures { Decides marks }
 {}
 
 // The words of a state's rows stand for what is held.
-pub fn words_stand<K: MarkedKind>()
-    ensures { WordsStand K.MarkedKind.marks }
+pub fn words_stand<K: AnswerKind>()
+    ghost marks: { Marks K.AnswerKind.kind }
+    ensures { WordsStand marks }
 {}
 
 // A state with the same bound cells and the same rows stands for the same.
-pub fn same_rows_stand<K: MarkedKind>()
-    ensures { SameRowsStand K.MarkedKind.marks }
+pub fn same_rows_stand<K: AnswerKind>()
+    ghost marks: { Marks K.AnswerKind.kind }
+    ensures { SameRowsStand marks }
 {}
 
 // A block has as many slots as bound cells.
-pub fn slots_count_bound<K: MarkedKind>()
-    ensures { SlotsCountBound K.MarkedKind.marks }
+pub fn slots_count_bound<K: AnswerKind>()
+    ghost marks: { Marks K.AnswerKind.kind }
+    ensures { SlotsCountBound marks }
 {}
 
 // Each run has a state that stands for what it holds.
-pub fn run_has_state<K: MarkedKind>()
-    ensures { RunHasState K.MarkedKind.marks }
+pub fn run_has_state<K: AnswerKind>()
+    ghost marks: { Marks K.AnswerKind.kind }
+    ensures { RunHasState marks }
 {}
 
 // The slots that a conflict shows are to blame; words alone show none.
