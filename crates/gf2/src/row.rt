@@ -6,7 +6,7 @@ ghost use Rattle.gf2.specs.Rows.{row_of};
 use crate::kinds::Answer;
 use crate::sets::CellSet;
 
-// A cell set with an answer.
+// A cell set with an answer. Not a `Pair` of the two, so that each part has its name.
 #[derive(Clone, Copy, PartialEq, Eq, Debug)]
 pub struct Row<K> {
     pub cells: CellSet,

@@ -31,6 +31,7 @@ enum Verdict<K> {
 
 impl<K: Marked> Draft<'_, K> {
     // Enters a key with its notice number: the entry's block and slot, or `DEPENDENT` in the slot's place.
+    // That the rows are still the lender's own (`lent`) is said of each call that has the draft by `&mut`: it is no fact of one value.
     pub fn enter<R: Reader>(
         &mut self,
         reader: &R,
