@@ -104,38 +104,32 @@ pub fn run_is_held()
 
 // A state with no bound cell stands for nothing held, whatever its rows hold.
 pub fn open_stands<K: AnswerKind>()
-    ghost marks: { Marks K.AnswerKind.kind }
-    ensures { OpenStands marks }
+    ensures { (marks : Marks K.AnswerKind.kind) → OpenStands marks }
 {}
 
 // The reduction decides between slot, dependent and conflict: for words alone, and for words with slot sets.
 pub fn decides<K: AnswerKind>()
-    ghost marks: { Marks K.AnswerKind.kind }
-    ensures { Decides marks }
+    ensures { (marks : Marks K.AnswerKind.kind) → Decides marks }
 {}
 
 // The words of a state's rows stand for what is held.
 pub fn words_stand<K: AnswerKind>()
-    ghost marks: { Marks K.AnswerKind.kind }
-    ensures { WordsStand marks }
+    ensures { (marks : Marks K.AnswerKind.kind) → WordsStand marks }
 {}
 
 // A state with the same bound cells and the same rows stands for the same.
 pub fn same_rows_stand<K: AnswerKind>()
-    ghost marks: { Marks K.AnswerKind.kind }
-    ensures { SameRowsStand marks }
+    ensures { (marks : Marks K.AnswerKind.kind) → SameRowsStand marks }
 {}
 
 // A block has as many slots as bound cells.
 pub fn slots_count_bound<K: AnswerKind>()
-    ghost marks: { Marks K.AnswerKind.kind }
-    ensures { SlotsCountBound marks }
+    ensures { (marks : Marks K.AnswerKind.kind) → SlotsCountBound marks }
 {}
 
 // Each run has a state that stands for what it holds.
 pub fn run_has_state<K: AnswerKind>()
-    ghost marks: { Marks K.AnswerKind.kind }
-    ensures { RunHasState marks }
+    ensures { (marks : Marks K.AnswerKind.kind) → RunHasState marks }
 {}
 
 // The slots that a conflict shows are to blame; words alone show none.
