@@ -14,7 +14,7 @@ pub const HORSE: [u8; 4] = [0x3f, 0x37, 0xa1, 0xa7];
 pub const IMAGE: [u8; 12] = [1, 3, 0, 4, 3, 2, 0, 1, 25, 0, 26, 9];
 
 // The shape of n, k, s, r and b.
-pub fn shape(numbers: [u16; 5]) -> Result<Shape, Fault> {
+pub(crate) fn shape(numbers: [u16; 5]) -> Result<Shape, Fault> {
     let [n, k, s, r, b] = numbers;
     Shape::check(Dims { n, k, s, r, b })
 }
