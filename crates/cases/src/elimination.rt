@@ -6,6 +6,7 @@ mod tests {
     use gf2::row::{Block, Row};
     use gf2::rows::Rows;
     use gf2::sets::CellSet;
+    use gf2::sizes::RowSize;
     use std::process::Abort;
     use std::test::Fail;
 

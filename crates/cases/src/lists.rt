@@ -124,21 +124,26 @@ mod tests {
         Ok(())
     }
 
-    fn each_comes_next<K: Marked>(rt: &impl Abort, named: bool) -> Result<(), Fail> {
+    // The rows go from one case to the next: what they hold when a draft opens does not matter.
+    fn each_comes_next<K: Marked>(
+        rt: &impl Abort,
+        rows: &mut [Row<K>],
+        named: bool,
+    ) -> Result<(), Fail> {
         for case in NEXT {
-            comes_next(rt, &mut [old::<K>(); 4], case, named)?;
+            comes_next(rt, rows, case, named)?;
         }
         Ok(())
     }
 
     #[test]
     fn full_rows_name_the_slots(rt: HostRuntime) -> Result<(), Fail> {
-        each_comes_next::<Full>(&rt, true)
+        each_comes_next(&rt, &mut [old::<Full>(); 4], true)
     }
 
     #[test]
     fn lean_rows_name_none(rt: HostRuntime) -> Result<(), Fail> {
-        each_comes_next::<Word>(&rt, false)
+        each_comes_next(&rt, &mut [old::<Word>(); 4], false)
     }
 
     // Both draws fall on the only cell, so that no cell is left.

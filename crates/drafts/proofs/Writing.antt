@@ -9,7 +9,7 @@ use Rattle.std.proofs.lemmas.Result.{IfOk-at_ok}
 use Rattle.std.proofs.lemmas.Slice.{take-put_mid}
 use Rattle.span.specs.Marked.{Full, fulls, Marks}
 use Rattle.gf2.specs.Fills.{Filling, FillingIn}
-use Rattle.gf2.specs.declared.elimination.rows.Misfit.{Misfit}
+use Rattle.gf2.specs.declared.row.Misfit.{Misfit}
 use Rattle.gf2.specs.declared.row.Block.{Block}
 use Rattle.table.specs.Sizes.{width, cells_length}
 use Rattle.table.specs.Images.{bytes_of, Stored}

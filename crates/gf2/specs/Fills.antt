@@ -6,7 +6,7 @@ use Rattle.span.specs.Fillings.{pick, xor_over, SatisfiesRows, ZeroInFree, subst
 use Rattle.span.specs.Marked.{Full, fulls, Marks, word_state}
 use Rattle.gf2.specs.Masks.{mask}
 use Rattle.gf2.specs.Rows.{block_of, There}
-use Rattle.gf2.specs.declared.elimination.rows.Misfit.{Misfit}
+use Rattle.gf2.specs.declared.row.Misfit.{Misfit}
 use Rattle.gf2.specs.declared.kinds.Word.{Word}
 use Rattle.gf2.specs.declared.row.Row.{Row as Record}
 use Rattle.gf2.specs.declared.row.Block.{Block}

@@ -8,9 +8,8 @@ ghost use Rattle.gf2.specs.Fills.{word_at, NoCell, MadeOf, SubstitutionIn, Filli
 
 use crate::kinds::{Answer, Word};
 use crate::marked::Marked;
-use crate::row::{Block, Row};
+use crate::row::{Block, Misfit, Row};
 use crate::sets::CellSet;
-use rows::Misfit;
 
 pub mod rows;
 

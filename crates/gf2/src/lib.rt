@@ -6,6 +6,7 @@ pub mod kinds;
 pub mod marked;
 pub mod row;
 pub mod sets;
+pub mod sizes;
 pub mod theorems;
 
 pub use elimination::rows;

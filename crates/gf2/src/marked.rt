@@ -1,5 +1,5 @@
 // Answer kinds that have a word, and in which the slot of an entry can be marked.
-ghost use Rattle.std.specs.Prelude.{◌≡◌, ℕ, ◌+◌, ◌/◌, List, if◌then◌else◌, nat_lt, refl};
+ghost use Rattle.std.specs.Prelude.{◌≡◌, ℕ, List, if◌then◌else◌, nat_lt, refl};
 ghost use Rattle.span.specs.Echelon.{Row as SpanRow};
 ghost use Rattle.span.specs.Marked.{Full, fulls, Marks, full_marks, lean_marks, Blames, NoSlots};
 ghost use Rattle.span.specs.Slots.{ConflictSet};
@@ -8,9 +8,7 @@ ghost use Rattle.gf2.specs.Masks.{width, mask};
 ghost use Rattle.span.proofs.Marked.{lean_blames, full_blames};
 
 use crate::kinds::{Answer, Pair, Word};
-use crate::row::Row;
 use crate::sets::CellSet;
-use std::mem::size_of;
 
 // A value is seen as a word with a slot set (`view`), by a map that keeps sums (`seen`). `marks` says how its word is read and a slot marked,
 // and `blame` what the slots say that are left of an entry in conflict.
@@ -20,8 +18,6 @@ pub trait Marked: Answer {
     ghost marks: { Marks fulls };
 
     ghost blame: { List (SpanRow ℕ) → SpanRow ℕ → ℕ → Type 0 };
-
-    ghost row_size: { ℕ };
 
     // The answer with this word and no slot marked.
     fn of_word(word: u64) -> Self
@@ -37,10 +33,6 @@ pub trait Marked: Answer {
     fn slots(self) -> CellSet
         ensures { mask result ≡ marks.slots (view self) };
 
-    // How many bytes a row with such an answer takes, which is what is lent for each cell.
-    fn row_size() -> usize
-        ensures { result ≡ row_size };
-
     ghost seen: { Seen Self.Answer.mean Self.Answer.kind view };
 
     ghost blames: { Blames marks blame };
@@ -53,9 +45,6 @@ impl Marked for Word {
     ghost marks = { lean_marks };
 
     ghost blame = { NoSlots };
-
-    // Its cells and eight bytes.
-    ghost row_size = { width / 8 + 8 };
 
     ghost seen = { record { through = λ w. (w, 0); of_mean = λ _. refl; of_none = refl; of_sum = λ _ _. refl } };
 
@@ -76,10 +65,6 @@ impl Marked for Word {
     fn slots(self) -> CellSet {
         CellSet::empty()
     }
-
-    fn row_size() -> usize {
-        size_of::<Row<Word>>()
-    }
 }
 
 // Words with slot sets.
@@ -89,9 +74,6 @@ impl Marked for Pair<Word, CellSet> {
     ghost marks = { full_marks };
 
     ghost blame = { ConflictSet };
-
-    // Its cells, eight bytes and its slots.
-    ghost row_size = { width / 8 + 8 + width / 8 };
 
     ghost seen = { record { through = λ p. p; of_mean = λ _. refl; of_none = refl; of_sum = λ _ _. refl } };
 
@@ -118,9 +100,5 @@ impl Marked for Pair<Word, CellSet> {
 
     fn slots(self) -> CellSet {
         self.right
-    }
-
-    fn row_size() -> usize {
-        size_of::<Row<Pair<Word, CellSet>>>()
     }
 }

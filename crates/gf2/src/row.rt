@@ -32,3 +32,7 @@ pub struct Block {
     pub n: usize,
     pub bound: CellSet,
 }
+
+// Refused: the block's rows are not all there, or there are not as many words as cells.
+#[derive(Clone, Copy, PartialEq, Eq, Debug)]
+pub struct Misfit;

@@ -1,5 +1,5 @@
 -- The bytes of the lines that the program prints.
-use Rattle.std.specs.Prelude.{ℕ, zero, suc, Bool, cond, List, [], ◌∷◌, ◌++◌, Ok, Err, codes, decimal, Result, ◌==◌}
+use Rattle.std.specs.Prelude.{ℕ, zero, suc, ◌+◌, ◌/◌, ◌%◌, Bool, cond, Option, Some, List, [], ◌∷◌, ◌++◌, Ok, Err, codes, decimal, Result, ◌==◌, nat_lt}
 use Rattle.span.specs.Sets.{has}
 use Rattle.gf2.specs.Masks.{value, width}
 use Rattle.shapes.specs.Texts.{fault_text}
@@ -7,12 +7,20 @@ use Rattle.shapes.specs.declared.fault.Fault.{Fault}
 use Rattle.shapes.specs.declared.fault.Fault.TheVariants.{ShapeLimit, FewRows, NotAdmitted, LongKey, TurnedDown, LargeNotice, Conflict, NoBlock, NoCell, ShortBuffer, NoHeader, HeaderLimit, ImageLength, LargeCell}
 use Rattle.table.specs.declared.reply.Reply.{Reply}
 use Rattle.table.specs.Texts.{reply_text}
-use Rattle.hex.specs.Hex.{encode_lower}
 use Rattle.table.specs.Images.{Content}
 use Rattle.drafts.specs.Outcomes.{dependent}
 use Rattle.runs.specs.Runs.{Deed, enters, writes, asks, counts}
 use Rattle.runs.specs.declared.works.Outcome.{Outcome}
 use Rattle.runs.specs.declared.works.Outcome.TheVariants.{Entered, Wrote, Bound, Counted}
+
+-- The character of a hexadecimal digit: 0 to 9, and then a to f.
+abbrev pub hex_digit : ℕ → ℕ
+hex_digit n = cond (nat_lt n 10) (48 + n) (87 + n)
+
+-- Two digits for each byte, the high digit first.
+abbrev pub hex : List ℕ → List ℕ
+hex [] = []
+hex (b ∷ bs) = hex_digit (b / 16) ∷ hex_digit (b % 16) ∷ hex bs
 
 -- The members of the set m that are below n, in rising order.
 unfoldable pub members : ℕ → ℕ → List ℕ
@@ -30,7 +38,7 @@ slots_text m = cond (m == 0) (codes ", no slots") (codes ", slots" ++ spaced (me
 
 -- What only some faults tell: a reader's refusal its reason and depth, a conflict its slots.
 abbrev pub detail_text : Fault → List ℕ
-detail_text (ShapeLimit place) = []
+detail_text (ShapeLimit limit) = []
 detail_text (FewRows rows) = []
 detail_text (NotAdmitted by) = []
 detail_text (LongKey by len) = []
@@ -41,9 +49,14 @@ detail_text NoBlock = []
 detail_text NoCell = []
 detail_text (ShortBuffer len) = []
 detail_text NoHeader = []
-detail_text (HeaderLimit place) = []
+detail_text (HeaderLimit limit) = []
 detail_text (ImageLength len) = []
 detail_text (LargeCell cell) = []
+
+-- The answer's text, where it has one, or the fault's.
+abbrev pub or_fault : {T : Type 0} → (T → Option (List ℕ)) → Result T Fault → Option (List ℕ)
+or_fault text (Ok x) = text x
+or_fault text (Err f) = Some (fault_text f)
 
 -- As in "fault 7, place 0, layer draft, slots 0 1 2".
 abbrev pub full_fault_text : Fault → List ℕ
@@ -61,15 +74,15 @@ opened_text (Err f) = fault_text f
 
 -- As in "image 0103..: opened".
 abbrev pub opened_line : List ℕ → Result Content Fault → List ℕ
-opened_line image outcome = codes "image " ++ (encode_lower image ++ (codes ": " ++ opened_text outcome))
+opened_line image outcome = codes "image " ++ (hex image ++ (codes ": " ++ opened_text outcome))
 
 -- As in "serial b85c341a: Maybe 0".
 abbrev pub asked_line : List ℕ → Result Reply Fault → List ℕ
-asked_line key answer = codes "serial " ++ (encode_lower key ++ (codes ": " ++ answer_text answer))
+asked_line key answer = codes "serial " ++ (hex key ++ (codes ": " ++ answer_text answer))
 
 -- As in "enter b85c341a, notice 0", "write", "cell 1 of block 0" and "block 0".
 abbrev pub deed_text : Deed → List ℕ
-deed_text (enters key notice) = codes "enter " ++ (encode_lower key ++ (codes ", notice " ++ decimal notice))
+deed_text (enters key notice) = codes "enter " ++ (hex key ++ (codes ", notice " ++ decimal notice))
 deed_text writes = codes "write"
 deed_text (asks block cell) = codes "cell " ++ (decimal cell ++ (codes " of block " ++ decimal block))
 deed_text (counts block) = codes "block " ++ decimal block

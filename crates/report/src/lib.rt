@@ -1,7 +1,9 @@
 // The lines that the program prints, each promised byte for byte.
 #![tactic(auto)]
 
+mod answer;
 mod detail;
+mod hex;
 mod lines;
 mod works;
 

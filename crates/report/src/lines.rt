@@ -4,6 +4,8 @@ ghost use Rattle.table.specs.Images.{opening};
 ghost use Rattle.table.specs.Questions.{asking_image};
 ghost use Rattle.report.specs.Texts.{opened_line, asked_line};
 
+use crate::answer::OrFault;
+use crate::hex::Hex;
 use readers::reader::Reader;
 use std::alloc::{AllocError, Global};
 use table::{Table, ask_image};
@@ -12,11 +14,9 @@ use table::{Table, ask_image};
 pub fn opened(heap: Global, image: &[u8]) -> Result<String, AllocError>
     ensures { IfOk result (λ s. string_bytes s ≡ opened_line image.now (opening image.now)) }
 {
-    let bytes = hex::encode(heap, image)?;
-    match Table::open(image) {
-        Ok(_) => format!(in heap; "image {bytes}: opened"),
-        Err(fault) => format!(in heap; "image {bytes}: {fault}"),
-    }
+    let bytes = Hex(image);
+    let outcome = OrFault(Table::open(image).map(|_| "opened"));
+    format!(in heap; "image {bytes}: {outcome}")
 }
 
 // The key in hexadecimal, and the image's reply to it through the reader.
@@ -28,9 +28,7 @@ pub fn asked<R: Reader>(
 ) -> Result<String, AllocError>
     ensures { IfOk result (λ s. string_bytes s ≡ asked_line key.now (asking_image (R.Reader.meaning reader.now) image.now key.now)) }
 {
-    let serial = hex::encode(heap, key)?;
-    match ask_image(image, reader, key) {
-        Ok(reply) => format!(in heap; "serial {serial}: {reply}"),
-        Err(fault) => format!(in heap; "serial {serial}: {fault}"),
-    }
+    let serial = Hex(key);
+    let answer = OrFault(ask_image(image, reader, key));
+    format!(in heap; "serial {serial}: {answer}")
 }

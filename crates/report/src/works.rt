@@ -4,6 +4,7 @@ ghost use Rattle.runs.specs.Runs.{deed};
 ghost use Rattle.report.specs.Texts.{deed_text, slot_text, outcome_text, done_line};
 
 use crate::detail::InFull;
+use crate::hex::Hex;
 use drafts::DEPENDENT;
 use runs::{Outcome, Work};
 use std::alloc::{AllocError, Global};
@@ -13,23 +14,25 @@ use std::fmt;
 pub fn done(heap: Global, work: &Work, outcome: &Outcome) -> Result<String, AllocError>
     ensures { IfOk result (λ s. string_bytes s ≡ done_line (deed work.now) outcome.now) }
 {
-    let call = of_work(heap, work)?;
+    let call = Call(work);
     let answer = Answer(outcome);
     format!(in heap; "{call}: {answer}")
 }
 
-// The call. It is a text and no Display, since a key in hexadecimal needs memory.
-fn of_work(heap: Global, work: &Work) -> Result<String, AllocError>
-    ensures { IfOk result (λ s. string_bytes s ≡ deed_text (deed work.now)) }
-{
-    match work {
-        Work::Enter(key, notice) => {
-            let key = hex::encode(heap, key)?;
-            format!(in heap; "enter {key}, notice {notice}")
+// A call on a draft.
+#[derive(Clone, Copy)]
+struct Call<'a>(&'a Work<'a>);
+
+impl fmt::Display for Call<'_> {
+    ghost output = { λ call. Some (deed_text (deed call.0.now)) };
+
+    fn fmt<W: fmt::Write>(&self, f: &mut fmt::Formatter<W>) -> fmt::Result {
+        match self.0 {
+            Work::Enter(key, notice) => write!(f, "enter {}, notice {notice}", Hex(key)),
+            Work::Write => f.write_str("write"),
+            Work::Bound(block, cell) => write!(f, "cell {cell} of block {block}"),
+            Work::Count(block) => write!(f, "block {block}"),
         }
-        Work::Write => String::from_str(heap, "write"),
-        Work::Bound(block, cell) => format!(in heap; "cell {cell} of block {block}"),
-        Work::Count(block) => format!(in heap; "block {block}"),
     }
 }
 

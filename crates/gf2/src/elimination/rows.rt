@@ -7,12 +7,8 @@ ghost use Rattle.gf2.specs.Rows.{Missing, Reduction, BindingIn};
 use crate::elimination;
 use crate::kinds::{Answer, Word};
 use crate::marked::Marked;
-use crate::row::{Block, Row};
+use crate::row::{Block, Misfit, Row};
 use crate::sets::CellSet;
-
-// Refused: the block's rows are not all there, or there are not as many words as cells.
-#[derive(Clone, Copy, PartialEq, Eq, Debug)]
-pub struct Misfit;
 
 // A slice of rows, for one kind of answer. Each call works on one block of it.
 #[derive(Drop)]
