@@ -25,11 +25,6 @@ abbrev pub Substitution : {K : Type 0} → (K → Full) → Marks fulls → List
 Substitution view marks records block c r =
     (f : ℕ → ℕ) → bit_xor r.answer.0 (xor_over f block.n (mask r.cells)) ≡ substituted block.n (words_of view marks records block) f c
 
--- The same, said of the cell's row and of any number of words.
-abbrev pub MadeOf : {K : Type 0} → (K → Full) → Marks fulls → Record K → CellSet → ℕ → Record Word → Type 0
-MadeOf view marks row bound c r =
-    (f : ℕ → ℕ) (n : ℕ) → bit_xor r.answer.0 (xor_over f n (mask r.cells)) ≡ pick (has (mask bound) c) (bit_xor (marks.word (view row.answer)) (xor_over f n (bit_xor (mask row.cells) (2 ^ c))))
-
 -- The same of a cell that is there.
 abbrev pub SubstitutionIn : {K : Type 0} → (K → Full) → Marks fulls → List (Record K) → Block → ℕ → Record Word → Type 0
 SubstitutionIn view marks records block c r = There records block × (c < block.n) × Substitution view marks records block c r
@@ -37,6 +32,11 @@ SubstitutionIn view marks records block c r = There records block × (c < block.
 -- The block's rows are not all there, or c is not one of its cells.
 abbrev pub NoCell : {K : Type 0} → List (Record K) → Block → ℕ → Type 0
 NoCell records block c = There records block → block.n ≤ c
+
+-- A substitution by the cell's own row alone, and of any number of words.
+abbrev pub MadeOf : {K : Type 0} → (K → Full) → Marks fulls → Record K → CellSet → ℕ → Record Word → Type 0
+MadeOf view marks row bound c r =
+    (f : ℕ → ℕ) (n : ℕ) → bit_xor r.answer.0 (xor_over f n (mask r.cells)) ≡ pick (has (mask bound) c) (bit_xor (marks.word (view row.answer)) (xor_over f n (bit_xor (mask row.cells) (2 ^ c))))
 
 -- The words satisfy the block's rows, where those are in echelon form, and are zero in the free cells.
 pub record Filling {K : Type 0} (view : K → Full) (marks : Marks fulls) (records : List (Record K)) (block : Block) (words : List ℕ) : Type 0 where
