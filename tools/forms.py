@@ -103,7 +103,7 @@ show(5, "clauses that stand in three contracts or more", repeated_clauses())
 show(5, "parameters that travel together", travelling())
 show(6, "arrays in a struct, and buffers", grep(r"^\s+(pub )?\w+: \[.*; ?\w+\],|out: &mut|\[0; [A-Z_]+\]"))
 show(7, "matches that run one of several steps", grep(r"Work::\w+(\(.*\))? => "))
-old = [f"{p.relative_to(TOP)}: {l.strip()}" for p in sorted(TOP.glob("crates/*/*/**/*.antt")) if "/out/" not in str(p) for l in p.read_text().splitlines() if re.match(r"use (mathlib|lib|Prim)\.", l)]
+old = [f"{p.relative_to(TOP)}: {l.strip()}" for p in sorted(TOP.glob("crates/*/*/**/*.antt")) if "/out/" not in str(p) for l in p.read_text().splitlines() if re.match(r"use (mathlib|lib|Prim|native|denote|borrow)\.", l)]
 show(8, "imports by module of the libraries below std", old)
 for kind in ("specs", "proofs"):
     files = [p for p in TOP.glob(f"crates/*/{kind}/**/*.antt") if "/out/" not in str(p)]

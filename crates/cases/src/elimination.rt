@@ -119,6 +119,7 @@ mod tests {
         let slots = contradicts.answer.slots();
         assert!(rt; slots.contains(0) && slots.contains(1) && slots.contains(2));
         assert_eq!(rt; slots, set(&DEPENDENT));
+        assert!(rt; slots.symmetric_difference(set(&DEPENDENT)).is_empty());
         Ok(())
     }
 

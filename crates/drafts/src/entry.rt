@@ -2,6 +2,7 @@
 use gf2::sets::CellSet;
 
 // An equation over the cells of a block: the words in these cells XOR to the answer, the check above the notice number.
+// Not a clause with its check changed: a clause has no notice, and an answer is wider.
 #[derive(Clone, Copy)]
 pub struct Entry {
     pub block: u16,

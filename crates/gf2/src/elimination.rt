@@ -50,7 +50,7 @@ fn with(set: CellSet, cell: usize) -> CellSet
     }
 }
 
-// Writes the row at its lead cell, and gives the bound set with that cell.
+// Writes the row at its lead cell, and gives the bound set with that cell; the set as it was where there is no such cell, since this cannot fail.
 fn bind<K: Answer>(records: &mut [Row<K>], block: Block, row: Row<K>) -> CellSet
     ensures { BindingIn K.Answer.mean K.Answer.kind records.old block row records.new (mask result) }
 {

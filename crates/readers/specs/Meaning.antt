@@ -41,10 +41,10 @@ abbrev pub refusal : ℕ → ℕ → ℕ → Refusal
 refusal reason place depth = record { reason = reason; place = place; depth = depth }
 
 -- The reasons of the library's own readers as numbers.
-abbrev pub number : Reason → ℕ
-number NotRead = 0
-number WrongLength = 1
-number Unprintable = 2
+abbrev pub reason_number : Reason → ℕ
+reason_number NotRead = 0
+reason_number WrongLength = 1
+reason_number Unprintable = 2
 
 -- Whether a reader of this meaning looks at the key at all: it admits the shape, and the key is not too long.
 abbrev pub readable : Meaning → Dims → List ℕ → Bool

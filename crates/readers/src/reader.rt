@@ -1,6 +1,6 @@
 // The interface of readers, and the one way in which drafts and tables use one.
 ghost use Rattle.std.specs.Prelude.{◌≡◌, cond, IfOk};
-ghost use Rattle.readers.specs.Meaning.{Meaning, Formed, refusal, number, readable, reply, clause_in, read_for, clause_meant};
+ghost use Rattle.readers.specs.Meaning.{Meaning, Formed, refusal, reason_number, readable, reply, clause_in, read_for, clause_meant};
 
 use crate::clause::Clause;
 use shapes::fault::{Caller, Fault, Refusal};
@@ -23,7 +23,7 @@ pub enum Reason {
 impl Reason {
     // The refusal for this reason by the reader that was asked, at a place in the key.
     pub fn at(self, place: u32) -> Refusal
-        ensures { result ≡ refusal (number self) place 0 }
+        ensures { result ≡ refusal (reason_number self) place 0 }
     {
         Refusal {
             reason: self as u16,

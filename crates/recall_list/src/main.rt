@@ -1,7 +1,7 @@
 // A recall from end to end: the office enters a list and writes its table, and the roof asks the table about serials.
 #![tactic(auto)]
 
-use gf2::kinds::{Pair, Word};
+use gf2::kinds::{Answer, Pair, Word};
 use gf2::row::Row;
 use gf2::sets::CellSet;
 use readers::split::Split;
@@ -36,10 +36,7 @@ const LONG: [u8; 64] = [0x2a; 64];
 fn blank() -> Row<Pair<Word, CellSet>> {
     Row {
         cells: CellSet::empty(),
-        answer: Pair {
-            left: Word(0),
-            right: CellSet::empty(),
-        },
+        answer: Pair::zero(),
     }
 }
 
@@ -90,6 +87,7 @@ fn disputes(rt: HostRuntime, shape: Shape) -> anyhow::Result<()> {
         Work::Enter(&SUM, 0),
     ]
     .map(ahead);
+    // What the writing answered is of no interest here.
     let _ = replay(&Split, shape, &mut [blank(); 4], &mut steps, &mut [0; 12]);
     print_each(rt, &steps[3..])
 }

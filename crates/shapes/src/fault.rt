@@ -9,7 +9,7 @@ use std::error::Error;
 use std::fmt;
 
 // Why and where a reader turns a key down, and how many layers stand above the reader that did so, up to 255.
-// The reason is a number and no enum: readers of other makers have reasons of their own, and firmware in C switches over it.
+// The reason is a number and no enum: readers of other makers have reasons of their own.
 #[derive(Clone, Copy, PartialEq, Eq, Debug)]
 pub struct Refusal {
     pub reason: u16,
@@ -33,6 +33,7 @@ pub enum Caller {
     Table,
 }
 
+// What a call is refused with, and what goes with it.
 #[derive(Clone, Copy, PartialEq, Eq, Debug)]
 pub enum Fault {
     // A number of a shape is outside its limits: which.
@@ -47,7 +48,8 @@ pub enum Fault {
     TurnedDown(Refusal),
     // The notice number does not fit the notice bits: how many these are.
     LargeNotice(u16),
-    // No filling satisfies what is held and this entry: its block, and the slots whose entries say otherwise.
+    // No filling satisfies what is held and this entry: its block, and the slots whose entries say otherwise,
+    // as words, since sets of cells are not known down here.
     Conflict(u16, [u64; 4]),
     // There is no such block.
     NoBlock,
@@ -136,6 +138,7 @@ impl From<Refusal> for Fault {
     }
 }
 
+// A layer's name.
 impl fmt::Display for Layer {
     ghost output = { λ layer. Some (layer_text layer) };
 

@@ -1,7 +1,6 @@
 -- The tests of readings and questions, and the one computation that all cases pass.
-use Rattle.std.proofs.Common.{◌≡◌, ℕ, ◌%◌, ◌^◌, Bool, true, false, cond, ◌&&◌, eqb, leb, length, Ok, Err, Result, sym, refl, ap, ◌∙◌, ap₂, arith}
-use native.Mathlib.Nat.{mod-one}
-use lib.Bits.{bit_xor}
+use Rattle.std.proofs.Common.{◌≡◌, ℕ, ◌%◌, ◌^◌, Bool, true, false, cond, ◌&&◌, eqb, leb, length, Ok, Err, Result, sym, refl, ap, ◌∙◌, ap₂, arith, bit_xor}
+use Rattle.std.proofs.Math.Nat.{mod-one}
 use Rattle.std.specs.Result.{result_map_both}
 use Rattle.std.proofs.lemmas.Bool.{false≢true, and_parts, eqb-true}
 use Rattle.span.specs.Sets.{has}

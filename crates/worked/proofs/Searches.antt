@@ -1,7 +1,6 @@
 -- Tests that go through lists, through the numbers below a bound and through the sums of a list, and what they say.
-use Rattle.std.proofs.Common.{◌≡◌, ℕ, zero, suc, ◌<◌, Bool, true, false, ◌&&◌, ◌||◌, ◌⊎◌, List, [], ◌∷◌, sym, refl, ap, ◌∙◌, subst, inl, inr, not-suc-le-zero, arith}
-use native.Mathlib.Decide.{ℕ_discrete as dec_eq}
-use lib.Bits.{bit_xor}
+use Rattle.std.proofs.Common.{◌≡◌, ℕ, zero, suc, ◌<◌, Bool, true, false, ◌&&◌, ◌||◌, ◌⊎◌, List, [], ◌∷◌, sym, refl, ap, ◌∙◌, subst, inl, inr, not-suc-le-zero, arith, bit_xor}
+use Rattle.std.proofs.Math.Decide.{ℕ_discrete as dec_eq}
 use Rattle.std.proofs.lemmas.Bool.{false≢true, and_parts, and_from, or_cases, or_parts}
 use Rattle.span.specs.Kinds.{numbers, Comb, Member}
 use Rattle.span.proofs.Comb.{cancel}
