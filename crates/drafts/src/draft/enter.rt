@@ -83,10 +83,8 @@ impl<K: Marked> Draft<'_, K> {
             cells: entry.cells,
             answer: K::of_word(entry.answer),
         };
-        match self.rows.reduce(self.block(entry.block as usize), row) {
-            Some(left) => sorted(left),
-            None => unreachable(),
-        }
+        let place = self.block(entry.block as usize);
+        sorted(self.rows.reduce(place, row).unwrap())
     }
 
     // Puts a row in its block with the next slot marked, and gives that slot.
