@@ -9,7 +9,7 @@ use Rattle.span.specs.Blocks.{Placed, of}
 use Rattle.span.proofs.Marked.{words_stand, slots_count_bound}
 use Rattle.span.proofs.Theorems.{bound_is_bound}
 use Rattle.shapes.specs.declared.fault.Fault.{Fault}
-use Rattle.drafts.specs.Questions.{of_block, Tells, SaysBound}
+use Rattle.drafts.specs.Questions.{cell_of_block, Tells, SaysBound}
 use Rattle.drafts.specs.Asking.{BoundInDraft}
 use Rattle.drafts.specs.Standing.{slots_at, bound_at, dims_of, block_state, Stands}
 use Rattle.drafts.specs.declared.draft.Draft.{Draft}
@@ -29,7 +29,7 @@ module _ {K : Type 0} (view : K → Full) (marks : Marks fulls) (d : Draft K) (H
 
 -- the answer about a cell that the block has
 pub tells_bound : {K : Type 0} (view : K → Full) (marks : Marks fulls) (d : Draft K) (b : ℕ) → b < (dims_of d).b → (c : ℕ) → c < (dims_of d).n
-    → (answer : Bool) → answer ≡ has (bound_at d.tally b) c → Tells (of_block (dims_of d) c) (BoundInDraft view marks d b c) (Ok answer)
+    → (answer : Bool) → answer ≡ has (bound_at d.tally b) c → Tells (cell_of_block (dims_of d) c) (BoundInDraft view marks d b c) (Ok answer)
 tells_bound view marks d b h c hc answer is =
     subst (λ (r : Result ℕ Fault). Tells r (BoundInDraft view marks d b c) (Ok answer)) (sym (cond-true _ _ _ (lt-ltb c (dims_of d).n hc)))
     (answer, refl, λ H st. says_bound view marks d H st b h c hc answer is)

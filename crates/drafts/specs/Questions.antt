@@ -13,12 +13,12 @@ abbrev pub block_in : Dims → ℕ → ℕ → Result ℕ Fault
 block_in d rows b = and_then (with_rows d rows) (λ _. cond (nat_lt b d.b) (Ok b) (Err NoBlock))
 
 -- The cell, where a block has such a cell.
-abbrev pub of_block : Dims → ℕ → Result ℕ Fault
-of_block d c = cond (nat_lt c d.n) (Ok c) (Err NoCell)
+abbrev pub cell_of_block : Dims → ℕ → Result ℕ Fault
+cell_of_block d c = cond (nat_lt c d.n) (Ok c) (Err NoCell)
 
 -- The cell, where there are such a block and such a cell.
 abbrev pub cell_in : Dims → ℕ → ℕ → ℕ → Result ℕ Fault
-cell_in d rows b c = and_then (block_in d rows b) (λ _. of_block d c)
+cell_in d rows b c = and_then (block_in d rows b) (λ _. cell_of_block d c)
 
 -- The answer has the property where all checks pass, and otherwise is the fault of the first that fails.
 abbrev pub Tells : {X Y : Type 0} → Result X Fault → (Y → Type 0) → Result Y Fault → Type 0

@@ -1,7 +1,7 @@
 // Questions about bound cells.
 ghost use Rattle.std.specs.Prelude.{◌≡◌, ◌<◌, IfOk};
 ghost use Rattle.std.specs.Result.{result_map_both};
-ghost use Rattle.drafts.specs.Questions.{block_in, of_block, Tells};
+ghost use Rattle.drafts.specs.Questions.{block_in, cell_of_block, Tells};
 ghost use Rattle.drafts.specs.Asking.{BoundInDraft, CountInDraft, AskedCell, AskedCount};
 ghost use Rattle.drafts.specs.Standing.{dims_of, row_count};
 
@@ -50,7 +50,7 @@ impl<K: Marked> Asked<'_, '_, K> {
     // Whether a cell is noted as bound.
     #[tactic(auto, using(crate::proofs::Bound::tells_bound))]
     fn is_bound(&self, cell: u16) -> Result<bool, Fault>
-        ensures { Tells (of_block (dims_of self.now.draft.now) cell) (BoundInDraft K.Marked.view K.Marked.marks self.now.draft.now self.now.block cell) result }
+        ensures { Tells (cell_of_block (dims_of self.now.draft.now) cell) (BoundInDraft K.Marked.view K.Marked.marks self.now.draft.now self.now.block cell) result }
     {
         let draft = self.draft;
         if cell >= draft.shape.dims().n {
