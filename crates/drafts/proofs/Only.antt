@@ -10,8 +10,7 @@ use Rattle.gf2.specs.Rows.{There, BindingIn}
 use Rattle.gf2.specs.Theorems.{Disjoint}
 use Rattle.gf2.specs.declared.row.Row.{Row as Record}
 use Rattle.gf2.specs.declared.row.Block.{Block}
-use Rattle.drafts.specs.Standing.{dims_of, records_of, row_count, block_at}
-use Rattle.table.specs.Sizes.{cell_count}
+use Rattle.drafts.specs.Standing.{dims_of, block_at}
 use Rattle.drafts.specs.Entering.{OnlyBlock}
 use Rattle.drafts.specs.declared.draft.Draft.{Draft}
 
@@ -61,10 +60,3 @@ same_outside mean kind records block row records' bound' bind = go (dec_le (bloc
     go : Dec (block.start + block.n ≤ length records) → SameOutside block.start block.n records records'
     go (yes there) = by there (lead_below (mask row.cells) block.n)
     go (no missing) = kept (bind.missing (omega arith)).0
-
--- the rows of each block are there, where there is one for each cell
-pub block_there : {K : Type 0} (d : Draft K) (b : ℕ) → cell_count (dims_of d) ≤ row_count d → b < (dims_of d).b → There (records_of d) (block_at d b)
-block_there d b enough h =
-    let n = (dims_of d).n in
-    let le : (b + 1) * n ≤ (dims_of d).b * n = mul-le-mul_right n (omega (arith, h)) in
-    omega (arith, add-mul b 1 n, one-mul n, enough)

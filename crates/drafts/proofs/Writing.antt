@@ -1,26 +1,20 @@
 -- The words of the blocks, one after another, as bytes; and the table that they make up.
-use Rattle.std.proofs.Common.{◌≡◌, ℕ, ◌+◌, ◌-◌, ◌*◌, ◌<◌, ◌≤◌, List, ◌++◌, length, take, drop, Ok, Result, IsOk, sym, ap, ◌∙◌, subst, mul-le-mul_right, add-mul, one-mul, arith, length-append}
+use Rattle.std.proofs.Common.{◌≡◌, ℕ, ◌+◌, ◌-◌, ◌*◌, ◌<◌, ◌≤◌, List, ◌++◌, length, take, drop, sym, ap, ◌∙◌, subst, mul-le-mul_right, add-mul, one-mul, arith, length-append}
 use Rattle.std.proofs.Math.Decide.{dec_le}
 use borrow.Rule.Slice.PartMut.{put_mid}
 use Rattle.std.specs.List.{flat_map}
 use Rattle.std.proofs.lemmas.Grind.{flat_map-append}
 use Rattle.std.proofs.lemmas.List.{take_all, drop_at, take-append-le, drop-append-le, length-drop}
-use Rattle.std.proofs.lemmas.Result.{IfOk-at_ok}
 use Rattle.std.proofs.lemmas.Slice.{take-put_mid}
 use Rattle.span.specs.Marked.{Full, fulls, Marks}
-use Rattle.gf2.specs.Fills.{Filling, FillingIn}
-use Rattle.gf2.specs.declared.row.Misfit.{Misfit}
-use Rattle.gf2.specs.declared.row.Block.{Block}
+use Rattle.gf2.specs.Fills.{Filling}
 use Rattle.table.specs.Sizes.{width, cells_length}
-use Rattle.table.specs.Images.{bytes_of, Stored}
-use Rattle.table.specs.declared.store.WrongLength.{WrongLength}
+use Rattle.table.specs.Images.{bytes_of}
 use Rattle.table.proofs.Blocks.{block_end}
 use Rattle.table.proofs.Bytes.{length_joined}
-use Rattle.table.proofs.Stores.{stored_is}
 use Rattle.drafts.specs.Standing.{dims_of, records_of, block_at}
-use Rattle.drafts.specs.Steps.{WordsOf, BlockWords, Enough}
+use Rattle.drafts.specs.Steps.{WordsOf, BlockWords}
 use Rattle.drafts.specs.declared.draft.Draft.{Draft}
-use Rattle.drafts.proofs.Only.{block_there}
 
 -- the end of a part is the start of the next
 pub next_part : (b size : ℕ) → (b + 1) * size ≡ b * size + size
@@ -32,27 +26,6 @@ module _ {K : Type 0} (view : K → Full) (marks : Marks fulls) (d : Draft K) wh
 
   abbrev w : ℕ
   w = width (dims_of d)
-
-  -- each block has its rows, so its words can be read out
-  pub block_fits : (b : ℕ) (block : Block) → block ≡ block_at d b → Enough d → b < (dims_of d).b
-      → (words words' : List ℕ) (r : Result (Unit {0}) Misfit) → length words ≡ n → FillingIn view marks (records_of d) block words r words' → IsOk r
-  block_fits b block is enough h words words' r long fills =
-      (subst (λ (k : Block). FillingIn view marks (records_of d) k words r words') is fills).taken (block_there d b enough h) long
-
-  -- the words of one block are read out and written
-  pub block_words : (b : ℕ) (block : Block) → block ≡ block_at d b
-      → (words words' : List ℕ) (r : Result (Unit {0}) Misfit) (x : Unit {0}) → length words ≡ n → length words' ≡ length words
-      → FillingIn view marks (records_of d) block words r words' → r ≡ Ok x
-      → (cells : List ℕ) (t : Result (Unit {0}) WrongLength) (cells' : List ℕ) → length cells ≡ n * w → Stored (flat_map (bytes_of w) words') cells t cells'
-      → BlockWords view marks d b cells'
-  block_words b block is words words' r x long kept fills done cells t cells' room stored =
-      let fills' : FillingIn view marks (records_of d) (block_at d b) words r words' = subst (λ (k : Block). FillingIn view marks (records_of d) k words r words') is fills in
-      record {
-        words = words';
-        count = kept ∙ long;
-        are = stored_is (flat_map (bytes_of w) words') cells t cells' stored (room ∙ sym (length_joined w words' ∙ ap (λ k. k * w) (kept ∙ long)));
-        fill = IfOk-at_ok (λ _. Filling view marks (records_of d) (block_at d b) words') done fills'.filled;
-      }
 
   -- one block more
   pub words_more : (size : ℕ) → size ≡ n * w → (b : ℕ) (cells part : List ℕ) → b * size ≤ length cells

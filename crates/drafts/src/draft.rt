@@ -3,6 +3,7 @@ ghost use Rattle.std.specs.Prelude.{◌≡◌, ◌<◌};
 ghost use Rattle.std.specs.Result.{result_map_both};
 ghost use Rattle.drafts.specs.Entries.{with_rows};
 ghost use Rattle.drafts.specs.Standing.{dims_of, row_count, block_at};
+ghost use Rattle.drafts.specs.Steps.{Enough};
 
 use crate::tally::Tally;
 use gf2::marked::Marked;
@@ -27,6 +28,16 @@ pub struct Draft<'a, K> {
     tally: Tally,
 }
 
+// A block that the draft has, with a row for each of its cells. The methods name the draft first, since the checker has no rule for
+// `self.draft.tally`, a field behind a field that holds a `&mut`.
+#[derive(Drop)]
+struct OwnBlock<'d, 'a, K> {
+    draft: &'d Draft<'a, K>,
+    at: usize,
+    ghost within: { at < (dims_of draft.now).b },
+    ghost enough: { Enough draft.now },
+}
+
 impl<K: Marked> Draft<'_, K> {
     // Refuses a draft that has not a row for each cell.
     fn check_rows(&self) -> Result<(), Fault>
@@ -39,8 +50,8 @@ impl<K: Marked> Draft<'_, K> {
         Ok(())
     }
 
-    // Where the rows of a block stand, and its bound cells. That the draft has the block is asked here, in `bind` and in `write_block`:
-    // a number that carries the fact would have to borrow the draft, which `bind` alters.
+    // Where the rows of a block stand, and its bound cells. That the draft has the block is asked here and in `bind`:
+    // an `OwnBlock` borrows the draft, which `bind` alters.
     fn block(&self, at: usize) -> Block
         requires { at < (dims_of self.now).b }
         ensures { result ≡ block_at self.now at }

@@ -1,11 +1,11 @@
 // Writing the table of a draft as an image.
-ghost use Rattle.std.specs.Prelude.{◌≡◌, ◌*◌, ◌<◌, length};
+ghost use Rattle.std.specs.Prelude.{◌≡◌, ◌*◌, length};
 ghost use Rattle.table.specs.Sizes.{width, cells_length, image_length};
 ghost use Rattle.drafts.specs.Written.{ImageOf, WritesInto};
 ghost use Rattle.drafts.specs.Steps.{WordsOf, BlockWords, Enough};
 ghost use Rattle.drafts.specs.Standing.{dims_of};
 
-use crate::draft::Draft;
+use crate::draft::{Draft, OwnBlock};
 use gf2::marked::Marked;
 use shapes::fault::Fault;
 use table::{sizes, store};
@@ -27,8 +27,7 @@ impl<K: Marked> Draft<'_, K> {
         Ok(length)
     }
 
-    // Writes the header, and then the cells. It and the two below ask for a row for each cell by a clause:
-    // a type for a draft that has them would be taken apart in each (`let draft = self.draft;`).
+    // Writes the header, and then the cells.
     fn write_image(&self, image: &mut [u8])
         requires rows { Enough self.now }
         requires size { length image.old ≡ image_length (dims_of self.now) }
@@ -50,19 +49,21 @@ impl<K: Marked> Draft<'_, K> {
         let size = words.len() * sizes::cell_width(&self.shape);
         // By number: after a loop over `chunks_exact_mut` nothing is known of the bytes, and the goal `returns` stays open.
         for b in 0..self.shape.dims().b as usize {
-            self.write_block(b, words, &mut cells[b * size..(b + 1) * size]);
+            let block = OwnBlock { draft: self, at: b };
+            block.write(words, &mut cells[b * size..(b + 1) * size]);
         }
     }
+}
 
-    // Reads out the words of a block, and writes them as its cells.
-    fn write_block(&self, at: usize, words: &mut [u64], cells: &mut [u8])
-        requires rows { Enough self.now }
-        requires at { at < (dims_of self.now).b }
-        requires block { length words.old ≡ (dims_of self.now).n }
-        requires size { length cells.old ≡ (dims_of self.now).n * width (dims_of self.now) }
-        ensures { BlockWords K.Marked.view K.Marked.marks self.now at cells.new }
+impl<K: Marked> OwnBlock<'_, '_, K> {
+    // Reads out the words of the block, and writes them as its cells.
+    fn write(&self, words: &mut [u64], cells: &mut [u8])
+        requires block { length words.old ≡ (dims_of self.now.draft.now).n }
+        requires size { length cells.old ≡ (dims_of self.now.draft.now).n * width (dims_of self.now.draft.now) }
+        ensures { BlockWords K.Marked.view K.Marked.marks self.now.draft.now self.now.at cells.new }
     {
-        self.rows.fill(self.block(at), words).unwrap();
-        store::put_words(&self.shape, words, cells).unwrap();
+        let draft = self.draft;
+        draft.rows.fill(draft.block(self.at), words).unwrap();
+        store::put_words(&draft.shape, words, cells).unwrap();
     }
 }

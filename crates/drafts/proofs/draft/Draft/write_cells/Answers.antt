@@ -12,4 +12,4 @@ loop-b-preserved g c =
     let under : c.loop-b.b < (dims_of d).b = omega (arith, c.loop-b-test.true, ap (λ e. e.b) c.dims-b-end.ensures.same) in
     let within = part_within g.K.Marked.view g.K.Marked.marks d _ size c.loop-b.b under _ (c.loop-b.auto.cells ∙ c.requires.size) in
     words_more _ _ d _ size c.loop-b.b _ _ (omega (arith, within, next_part c.loop-b.b (length c.args.words.now * c.cell_width.result)))
-    c.loop-b.invariant c.write_block.ensures
+    c.loop-b.invariant c.write.ensures

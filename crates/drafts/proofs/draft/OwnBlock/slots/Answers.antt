@@ -1,5 +1,5 @@
 use Rattle.drafts.proofs.Bound.{says_count}
-use Rattle.drafts.proofs.draft.ask.Asked.slots.Goals as goal
+use Rattle.drafts.proofs.draft.OwnBlock.slots.Goals as goal
 
 pub returns : goal.returns
 returns g c H st = says_count _ _ _ H st _ c.args.self.now.within
