@@ -10,7 +10,7 @@ use gf2::marked::Marked;
 use shapes::fault::Fault;
 use table::{sizes, store};
 
-// Room for the words of a block.
+// Room for the words of the largest block: an array, since what is flashed has no heap.
 const CELLS: usize = 256;
 
 impl<K: Marked> Draft<'_, K> {
