@@ -22,10 +22,10 @@ module _ {K : Type 0} (view : K → Full) (marks : Marks fulls) (d : Draft K) (H
       let by = bound_is_bound numbers n (of b H) _ (words_stand marks n (of b H) B.in_slots (block_state view d b) B.stands) c in
       (λ t. by.0 (hc, sym is ∙ t), λ bound. is ∙ (by.1 bound).1)
 
-  pub says_count : CountBound (of b H) (dims_of d).n (slots_at d.tally b)
-  says_count =
+  pub says_count : (count : ℕ) → count ≡ slots_at d.tally b → CountBound (of b H) (dims_of d).n count
+  says_count count is =
       let B = st.blocks b h in
-      subst (CountBound (of b H) (dims_of d).n) (sym B.count) (slots_count_bound marks (dims_of d).n (of b H) B.in_slots (block_state view d b) B.stands)
+      subst (CountBound (of b H) (dims_of d).n) (sym (is ∙ B.count)) (slots_count_bound marks (dims_of d).n (of b H) B.in_slots (block_state view d b) B.stands)
 
 -- the answer about a cell that the block has
 pub tells_bound : {K : Type 0} (view : K → Full) (marks : Marks fulls) (d : Draft K) (b : ℕ) → b < (dims_of d).b → (c : ℕ) → c < (dims_of d).n

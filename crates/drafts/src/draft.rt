@@ -28,8 +28,7 @@ pub struct Draft<'a, K> {
     tally: Tally,
 }
 
-// A block that the draft has, with a row for each of its cells. The methods name the draft first, since the checker has no rule for
-// `self.draft.tally`, a field behind a field that holds a `&mut`.
+// A block that the draft has, with a row for each of its cells.
 #[derive(Drop)]
 struct OwnBlock<'d, 'a, K> {
     draft: &'d Draft<'a, K>,

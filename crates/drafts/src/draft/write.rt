@@ -62,8 +62,8 @@ impl<K: Marked> OwnBlock<'_, '_, K> {
         requires size { length cells.old ≡ (dims_of self.now.draft.now).n * width (dims_of self.now.draft.now) }
         ensures { BlockWords K.Marked.view K.Marked.marks self.now.draft.now self.now.at cells.new }
     {
-        let draft = self.draft;
-        draft.rows.fill(draft.block(self.at), words).unwrap();
-        store::put_words(&draft.shape, words, cells).unwrap();
+        let place = self.draft.block(self.at);
+        self.draft.rows.fill(place, words).unwrap();
+        store::put_words(&self.draft.shape, words, cells).unwrap();
     }
 }
