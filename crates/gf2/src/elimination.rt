@@ -1,5 +1,5 @@
 // The elimination in one block, on a slice of records: reducing a row, binding it, and reading out the words.
-// The container hands its slice on with the block, as was asked for (docs/DECISIONS.md).
+// The container hands its slice on with the block, so that nothing here depends on who holds the rows.
 ghost use Rattle.std.specs.Prelude.{◌≡◌, ◌<◌, length, MatchOption};
 ghost use Rattle.gf2.specs.Masks.{width, mask, PutIn};
 ghost use Rattle.gf2.specs.Rows.{Missing, Own, Reduction, BindingIn};

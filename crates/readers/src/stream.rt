@@ -31,7 +31,7 @@ pub fn fnv1a(key: &[u8]) -> u64
     hash(OFFSET_BASIS, key)
 }
 
-// The hash of a key from a basis, by that of the key without its last byte: docs/DECISIONS.md binds it to this form.
+// The hash of a key from a basis, by that of the key without its last byte, as the published rule has it: so the two can be read side by side.
 fn hash(basis: u64, key: &[u8]) -> u64
     ensures { result ≡ fnv_from basis key.now }
 {

@@ -1,5 +1,6 @@
 -- The bytes of the lines that the program prints.
 use Rattle.std.specs.Prelude.{ℕ, zero, suc, ◌+◌, ◌/◌, ◌%◌, Bool, cond, Option, Some, List, [], ◌∷◌, ◌++◌, Ok, Err, codes, decimal, Result, ◌==◌, nat_lt}
+use Rattle.std.specs.List.{flat_map}
 use Rattle.span.specs.Sets.{has}
 use Rattle.gf2.specs.Masks.{value, width}
 use Rattle.shapes.specs.Texts.{fault_text}
@@ -17,20 +18,26 @@ use Rattle.runs.specs.declared.works.Outcome.TheVariants.{Entered, Wrote, Bound,
 abbrev pub hex_digit : ℕ → ℕ
 hex_digit n = cond (nat_lt n 10) (48 + n) (87 + n)
 
--- Two digits for each byte, the high digit first.
+-- The two digits of a byte, the high digit first.
+abbrev pub two_digits : ℕ → List ℕ
+two_digits b = hex_digit (b / 16) ∷ hex_digit (b % 16) ∷ []
+
+-- Two digits for each byte.
 abbrev pub hex : List ℕ → List ℕ
-hex [] = []
-hex (b ∷ bs) = hex_digit (b / 16) ∷ hex_digit (b % 16) ∷ hex bs
+hex = flat_map two_digits
 
 -- The members of the set m that are below n, in rising order.
 unfoldable pub members : ℕ → ℕ → List ℕ
 members m zero = []
 members m (suc n) = members m n ++ cond (has m n) (n ∷ []) []
 
+-- A number with a space before it.
+abbrev pub after_space : ℕ → List ℕ
+after_space n = codes " " ++ decimal n
+
 -- As in " 0 1 2": each number with a space before it.
 abbrev pub spaced : List ℕ → List ℕ
-spaced [] = []
-spaced (n ∷ ns) = (codes " " ++ decimal n) ++ spaced ns
+spaced = flat_map after_space
 
 -- The slots of a set: as in ", slots 0 1 2", or ", no slots".
 abbrev pub slots_text : ℕ → List ℕ

@@ -1,6 +1,6 @@
 // Bytes in hexadecimal.
-ghost use Rattle.std.specs.Prelude.{[], ◌∷◌, Some};
-ghost use Rattle.report.specs.Texts.{hex};
+ghost use Rattle.std.specs.Prelude.{Some};
+ghost use Rattle.report.specs.Texts.{two_digits, hex};
 
 use std::fmt;
 
@@ -9,7 +9,7 @@ use std::fmt;
 struct Byte(u8);
 
 impl fmt::Display for Byte {
-    ghost output = { λ byte. Some (hex (byte.0 ∷ [])) };
+    ghost output = { λ byte. Some (two_digits byte.0) };
 
     #[tactic(auto, using(std::proofs::lemmas::Fmt::hex_byte))]
     fn fmt<W: fmt::Write>(&self, f: &mut fmt::Formatter<W>) -> fmt::Result {

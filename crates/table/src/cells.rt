@@ -43,8 +43,8 @@ pub fn first_large(cells: &[u8], shape: &Shape) -> Option<usize>
         .position(|cell| !fits(word(cell), shape))
 }
 
-// The XOR of the words in cells of these many bytes that are in the set: docs/DECISIONS.md binds it to a loop over the records,
-// so it has no text in common with the XOR over words in crate gf2.
+// The XOR of the words in cells of these many bytes that are in the set. Its items are records of bytes, each read once and where it lies;
+// those of crate gf2's XOR are words in memory, so the two loops stay apart.
 fn xor_records(block: &[u8], width: usize, cells: CellSet) -> u64
     requires { (1 ≤ width) × (width ≤ 8) }
     ensures { result ≡ xor_in width block.now (mask cells) }

@@ -16,7 +16,7 @@ use shapes::fault::{Caller, Fault};
 use shapes::shape::Shape;
 
 // Answered in the place of a slot: the entry is dependent. No block has so many slots.
-// A pair of plain numbers is the form that was asked for (docs/DECISIONS.md).
+// A number and no enum: block and slot go into a list or a log as they are.
 pub const DEPENDENT: u16 = 65535;
 
 // What is left of an entry when its block's rows are reduced out of it.

@@ -23,7 +23,7 @@ impl Table<'_> {
         Ok(reply(&self.shape, clause.check, word))
     }
 
-    // The XOR of the words in these cells of a block, to which the block's part of the bytes is handed, as was asked for (docs/DECISIONS.md).
+    // The XOR of the words in these cells of a block. Only the block's own part of the bytes is handed on, so no other block's can be read.
     fn xor(&self, block: usize, cells: CellSet) -> u64
         requires { block < self.now.shape.dims.b }
         ensures { result ≡ xor_over (word_at (content self.now) block) self.now.shape.dims.n (mask cells) }
