@@ -5,7 +5,7 @@ use gf2::kinds::{Answer, Pair, Word};
 use gf2::row::Row;
 use gf2::sets::CellSet;
 use readers::split::Split;
-use runs::{Outcome, Step, Work, replay};
+use runs::{Outcome, Step, Work, replay, replay_steps};
 use shapes::shape::{Dims, Shape};
 
 // The published example: four cells, three draws, three check bits, two notice bits, one block.
@@ -61,7 +61,7 @@ fn office(rt: HostRuntime, shape: Shape, image: &mut [u8]) -> anyhow::Result<()>
         Work::Bound(0, 3),
     ]
     .map(ahead);
-    let written = replay(&Split, shape, &mut [blank(); 4], &mut steps, image);
+    let written = replay_steps(&Split, shape, &mut [blank(); 4], &mut steps, image);
     print_each(rt, &steps)?;
     print_done(rt, &Work::Write, &Outcome::Wrote(written))
 }
@@ -79,17 +79,29 @@ fn roof(rt: HostRuntime, image: &[u8]) -> anyhow::Result<()> {
 
 // Enters the list, and then a serial that is dependent and one that conflicts.
 fn disputes(rt: HostRuntime, shape: Shape) -> anyhow::Result<()> {
-    let mut steps = [
+    let works = [
         Work::Enter(&CAT, 0),
         Work::Enter(&FISH, 1),
         Work::Enter(&DOG, 2),
         Work::Enter(&SUM, 3),
         Work::Enter(&SUM, 0),
-    ]
-    .map(ahead);
+    ];
+    let mut outcomes = [Outcome::Wrote(Ok(0)); 5];
     // What the writing answered is of no interest here.
-    let _ = replay(&Split, shape, &mut [blank(); 4], &mut steps, &mut [0; 12]);
-    print_each(rt, &steps[3..])
+    let ran = replay(
+        &Split,
+        shape,
+        &mut [blank(); 4],
+        &works,
+        &mut outcomes,
+        &mut [0; 12],
+    );
+    if ran.is_some() {
+        for (work, outcome) in works.iter().zip(&outcomes).skip(3) {
+            print_done(rt, work, outcome)?;
+        }
+    }
+    Ok(())
 }
 
 // A line for each step that was done.

@@ -2,7 +2,7 @@
 use Rattle.std.proofs.Common.{◌≡◌, ℕ, ◌+◌, ◌*◌, ◌/◌, ◌%◌, ◌^◌, ◌<◌, ◌≤◌, Bool, true, false, cond, ltb, ◌↔◌, List, [], length, get_or, take, Ok, Err, Result, sym, refl, ap, ◌∙◌, subst, arith}
 use Rattle.std.proofs.Math.Path.{transport}
 use Rattle.std.proofs.lemmas.Nat.{div-add-mod', mod_below}
-use Rattle.std.proofs.lemmas.List.{ext_get_or}
+use Rattle.std.proofs.lemmas.List.{ext_get_or, get_or-take}
 use Rattle.std.proofs.lemmas.Bool.{eq-eqb, cond-true}
 use Rattle.span.specs.Kinds.{Member, SameEntries}
 use Rattle.span.specs.Echelon.{Row, State}
@@ -226,3 +226,12 @@ lawful blame S limits ds os r buffer (hs, held) answered written = record {
   equal = λ T beside es hs gs held held' same q buffer' written' len len' e e'.
       images_equal S T beside limits ds es hs gs held held' same r q buffer buffer' written written' len len' e e';
 }
+
+-- outcomes past the works say nothing
+pub lawful_first : (blame : Blame) (S : Setting) → InLimits S.dims
+    → (ds : List Deed) (os : List Outcome) (n : ℕ) → length ds ≤ n → (r : Result ℕ Fault) (buffer : List ℕ)
+    → Lawful blame S ds (take n os) r buffer → Lawful blame S ds os r buffer
+lawful_first blame S limits ds os n all r buffer law =
+    lawful blame S limits ds os r buffer (law.held.0, law.held.1)
+    (λ i h hs held. subst (Answers blame S hs (get_or ds i writes)) (get_or-take n os i (Wrote (Ok 0)) (omega arith)) (law.answered i h hs held))
+    law.written

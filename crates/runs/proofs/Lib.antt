@@ -4,5 +4,7 @@ pub mod Holding
 pub mod Lawful
 pub mod Sofar
 pub mod Performing
-pub mod Turns
 pub mod Used
+pub mod Turns
+pub mod Noted
+pub mod Listed

@@ -19,11 +19,10 @@ use Rattle.drafts.specs.Entries.{with_rows, notice_in, entry_of, making}
 use Rattle.drafts.specs.Outcomes.{Together}
 use Rattle.drafts.specs.Questions.{Tells, SaysBound}
 use Rattle.drafts.specs.Writing.{writing}
-use Rattle.runs.specs.Lending.{used_rows, works_of, Ran}
+use Rattle.runs.specs.Lending.{used_rows}
 use Rattle.runs.specs.Runs.{Deed, enters, writes, asks, counts, setting, Entering, entries, entered_with, adds, passing, Held, AnswersEntering, Answers}
 use Rattle.runs.specs.Law.{Lawful}
 use Rattle.runs.specs.declared.works.Outcome.{Outcome}
-use Rattle.runs.specs.declared.works.Step.{Step}
 use Rattle.runs.specs.declared.works.Outcome.TheVariants.{Wrote}
 use Rattle.runs.proofs.Lawful.{lawful}
 
@@ -91,12 +90,7 @@ used_same d rows limits = go (leb (cell_count d) rows)
     go false = ap told (lt-leb (cell_count d) 0 some)
 
 -- a run on the rows that a draft uses is one on all that are lent
-pub ran : (blame : Blame) (m : Meaning) (d : Dims) (used rows room : ℕ) (old new : List Step) (w : Result ℕ Fault) (buffer buffer' : List ℕ)
-    → InLimits d → used ≡ used_rows d rows → Ran blame (setting m d used room) old new w buffer buffer' → Ran blame (setting m d rows room) old new w buffer buffer'
-ran blame m d used rows room old new w buffer buffer' limits is r = record {
-  outcomes = r.outcomes;
-  law = lawful_same m d used rows room (ap (with_rows d) is ∙ used_same d rows limits) blame limits (works_of old) r.outcomes w buffer' r.law;
-  noted = r.noted;
-  works = r.works;
-  rest = r.rest;
-}
+pub used_lawful : (m : Meaning) (d : Dims) (used rows room : ℕ) → InLimits d → used ≡ used_rows d rows
+    → (blame : Blame) (ds : List Deed) (os : List Outcome) (r : Result ℕ Fault) (buffer : List ℕ)
+    → Lawful blame (setting m d used room) ds os r buffer → Lawful blame (setting m d rows room) ds os r buffer
+used_lawful m d used rows room limits is blame = lawful_same m d used rows room (ap (with_rows d) is ∙ used_same d rows limits) blame limits

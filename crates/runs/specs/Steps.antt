@@ -1,5 +1,5 @@
 -- The steps of a run, as its parts promise them to each other.
-use Rattle.std.specs.Prelude.{◌≡◌, ℕ, ◌⊎◌, List, [], ◌∷◌, length, Ok, Err, Result}
+use Rattle.std.specs.Prelude.{◌≡◌, ℕ, ◌⊎◌, List, [], ◌∷◌, length, drop, Ok, Err, Result}
 use Rattle.span.specs.Slots.{Blame}
 use Rattle.span.specs.Marked.{Full, fulls, Marks}
 use Rattle.span.specs.Blocks.{Placed}
@@ -11,8 +11,9 @@ use Rattle.drafts.specs.Outcomes.{Together}
 use Rattle.drafts.specs.Standing.{dims_of, row_count, Stands}
 use Rattle.drafts.specs.Writing.{writing}
 use Rattle.drafts.specs.declared.draft.Draft.{Draft}
-use Rattle.runs.specs.Lending.{RestKept, used_rows, Ran}
+use Rattle.runs.specs.Lending.{RestKept, used_rows, RanSteps}
 use Rattle.runs.specs.Runs.{Deed, enters, writes, asks, counts, Setting, setting, Entering, entries, Answers}
+use Rattle.runs.specs.Law.{Lawful}
 use Rattle.runs.specs.declared.works.Outcome.{Outcome}
 use Rattle.runs.specs.declared.works.Step.{Step}
 
@@ -49,4 +50,12 @@ pub record Performs {K : Type 0} (view : K → Full) (marks : Marks fulls) (blam
 -- Steps and the writing after them, on a draft that held nothing: a run on any number of rows of which a draft uses just these.
 pub record Turns {K : Type 0} (view : K → Full) (marks : Marks fulls) (blame : Blame) (m : Meaning)
     (d : Draft K) (old : List Step) (buffer : List ℕ) (w : Result ℕ Fault) (new : List Step) (buffer' : List ℕ) : Type 0 where
-  pub fresh : (rows : ℕ) → Stands view marks d [] → row_count d ≡ used_rows (dims_of d) rows → Ran blame (setting m (dims_of d) rows (length buffer)) old new w buffer buffer'
+  pub fresh : (rows : ℕ) → Stands view marks d [] → row_count d ≡ used_rows (dims_of d) rows → RanSteps blame (setting m (dims_of d) rows (length buffer)) old new w buffer buffer'
+
+-- The same of works with the outcomes apart from them; the outcomes past the works are as they were.
+pub record TurnsApart {K : Type 0} (view : K → Full) (marks : Marks fulls) (blame : Blame) (m : Meaning)
+    (d : Draft K) (ds : List Deed) (old : List Outcome) (buffer : List ℕ) (w : Result ℕ Fault) (new : List Outcome) (buffer' : List ℕ) : Type 0 where
+  pub fresh : (rows : ℕ) → Stands view marks d [] → row_count d ≡ used_rows (dims_of d) rows
+      → Lawful blame (setting m (dims_of d) rows (length buffer)) ds new w buffer'
+  pub outcomes : drop (length ds) new ≡ drop (length ds) old
+  pub rest : RestKept w buffer buffer'
