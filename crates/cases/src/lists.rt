@@ -124,12 +124,16 @@ mod tests {
         Ok(())
     }
 
-    // The rows go from one case to the next: what they hold when a draft opens does not matter.
+    // Each case from rows of old memory, and then from those that the case before left: what rows hold when a draft opens does not matter.
     fn each_comes_next<K: Marked>(
         rt: &impl Abort,
         rows: &mut [Row<K>],
         named: bool,
     ) -> Result<(), Fail> {
+        for case in NEXT {
+            rows.fill(old());
+            comes_next(rt, rows, case, named)?;
+        }
         for case in NEXT {
             comes_next(rt, rows, case, named)?;
         }
