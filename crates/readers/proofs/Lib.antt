@@ -1,3 +1,4 @@
+pub mod Replies
 pub mod Drawing
 pub mod Hashing
 pub mod Words

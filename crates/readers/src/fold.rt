@@ -1,11 +1,10 @@
 // The fold layer: drops spaces and hyphens and turns letters into capitals, and hands the rest to the reader below.
-ghost use Rattle.std.specs.Prelude.{◌≡◌, ◌≤◌, length, not, position};
+ghost use Rattle.std.specs.Prelude.{◌≡◌, ◌≤◌, length, not, position, take};
 ghost use Rattle.readers.specs.Meaning.{most_key};
 ghost use Rattle.readers.specs.Fold.{printable, folded, capital, deeper, fold_meaning};
 
 use crate::clause::Clause;
 use crate::reader::{MOST_KEY, Reader, Reason};
-use arrayvec::ArrayVec;
 use shapes::fault::Refusal;
 use shapes::shape::Shape;
 
@@ -27,18 +26,21 @@ fn capital(b: u8) -> u8
     b.to_ascii_uppercase()
 }
 
-// The key as the reader below gets it.
-fn folded(key: &[u8]) -> ArrayVec<u8, MOST_KEY>
+// Writes the key as the reader below gets it, and answers how many bytes it has.
+// An array with its length, and no vector of another crate: what is flashed stands on std alone.
+fn fold_into(key: &[u8], room: &mut [u8; MOST_KEY]) -> usize
     requires { length key.now ≤ most_key }
-    ensures { result.items ≡ folded key.now }
+    ensures within { result ≤ most_key }
+    ensures folds { take result room.new ≡ folded key.now }
 {
-    let mut kept = ArrayVec::new();
+    let mut length = 0;
     for b in key {
         if !matches!(*b, b' ' | b'-') {
-            kept.push(capital(*b));
+            room[length] = capital(*b);
+            length += 1;
         }
     }
-    kept
+    length
 }
 
 // A refusal from below, one layer further up.
@@ -63,6 +65,8 @@ impl<R: Reader> Reader for Fold<R> {
         if let Some(place) = unprintable(key) {
             return Err(Reason::Unprintable.at(place as u32));
         }
-        self.0.read(shape, &folded(key)).map_err(deeper)
+        let mut room = [0; MOST_KEY];
+        let length = fold_into(key, &mut room);
+        self.0.read(shape, &room[..length]).map_err(deeper)
     }
 }
