@@ -131,7 +131,9 @@ mod tests {
         named: bool,
     ) -> Result<(), Fail> {
         for case in NEXT {
-            rows.fill(old());
+            for row in rows.iter_mut() {
+                *row = old();
+            }
             comes_next(rt, rows, case, named)?;
         }
         for case in NEXT {
